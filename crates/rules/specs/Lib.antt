@@ -1,0 +1,4 @@
+pub mod Memory
+pub mod Counts
+pub mod Bytes
+pub mod Laws

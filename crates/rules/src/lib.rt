@@ -1,0 +1,2 @@
+// The specification that every contract cites stands in specs/. Here are the functions whose contracts are its laws.
+pub mod memory_laws;
