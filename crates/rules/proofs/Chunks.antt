@@ -1,5 +1,5 @@
 -- What an offset names: the segment and the bucket of a chunk, and the bytes that it has.
-use Prim.Native.Nat.{ℕ, _+_, _*_, _/_, _%_, _≤_, _<_}
+use Prim.Native.Nat.{ℕ, _+_, _*_, _/_, _%_, _^_, _≤_, _<_}
 use mathlib.Core.Path.{_≡_, refl, sym, _∙_, ap, subst}
 use mathlib.Core.List.{List, [], _∷_}
 use mathlib.Core.Bool.{Bool, true, false, cond, _&&_}
@@ -10,9 +10,12 @@ use lib.ListN.{length, getD}
 use lib.Dec.{eqb, ltb}
 use Rattle.std.proofs.shelf.Lists.{getD-past}
 use Rattle.std.proofs.shelf.Bits.{div-add-mod', div-mul-add, mod-mul-add}
-use Rattle.std.proofs.shelf.Tests.{and-parts, and-from, eqb-true, eq-eqb, ltb-true, lt-ltb, cases-lt, cases-order}
+use Rattle.std.proofs.shelf.Tests.{and-parts, and-from, eqb-true, eq-eqb, ltb-true, lt-ltb, cases-lt, cases-order, cases-bool, cond-false}
+use Rattle.std.proofs.shelf.Ways.{tells}
+use Rattle.std.specs.declared.option.Option.{Option}
+use Rattle.std.specs.declared.option.Option.the-variants.{Some, None}
 use Rattle.elementary.specs.Ids.{packed, distance, segment}
-use Rattle.rules.specs.Memory.{Mem, Segment, Sound, segment-at, no-segment, home, bucket, is-chunk, offset-of, end-of}
+use Rattle.rules.specs.Memory.{Mem, Segment, Sound, segment-at, no-segment, home, bucket, is-chunk, bucket-at, offset-of, end-of, start-of}
 use Rattle.rules.specs.Bytes.{place, room}
 use Rattle.rules.specs.Laws.{No-byte-shared, Within-capacity}
 
@@ -101,3 +104,36 @@ no-byte-shared limit m o p sound co cp ne =
         (λ lt. ⊎-elim (λ a. inl (omega arith)) (λ a. inr (omega arith)) (sound .apart (segment o) (segment p) lt (chunk-there gs p cp)))
         (λ gt. ⊎-elim (λ a. inr (omega arith)) (λ a. inl (omega arith)) (sound .apart (segment p) (segment o) gt (chunk-there gs o co))))
       (cases-order (segment o) (segment p))
+
+-- a segment whose buckets have no size is not there, so that no offset names a bucket of it
+pub sizeless : (limit : ℕ) (m : Mem) (o : ℕ) → Sound limit m → home (m .segments) o .size ≡ 0 → bucket-at (m .segments) o ≡ None
+sizeless limit m o sound z =
+    ⊎-elim
+      (λ c. absurd (omega (arith, sound .shaped (segment o) (chunk-there (m .segments) o c) .fair .1)))
+      (λ c. cond-false _ _ _ c)
+      (cases-bool (is-chunk (m .segments) o))
+
+-- a segment's start is a small number
+pub start-low : (limit : ℕ) (m : Mem) (s x : ℕ) → Sound limit m → Some x ≡ start-of (m .segments) s → x < 2 ^ 63
+start-low limit m s x sound e =
+    let found : (s < length (m .segments)) × (x ≡ segment-at (m .segments) s .start) = grind (arith, tells) in
+    omega (arith, found .1, sound .shaped s (found .0) .low)
+
+-- an offset of a segment that has no start names nothing
+pub startless : (gs : List Segment) (o : ℕ) → None ≡ start-of gs (segment o) → is-chunk gs o ≡ false
+startless gs o e =
+    ⊎-elim
+      (λ c. let h = chunk-there gs o c in absurd (grind (arith, tells)))
+      (λ c. c)
+      (cases-bool (is-chunk gs o))
+
+-- what a search for a chunk's bytes found lies within the capacity
+pub located : (limit : ℕ) (m : Mem) (o start size : ℕ) → Sound limit m
+    → _≡_ {A = Option (ℕ × ℕ)} (Some (start, size)) (cond (is-chunk (m .segments) o) (Some (place m o, room m o)) None) → start + size ≤ m .capacity
+located limit m o start size sound e = go (is-chunk (m .segments) o) refl e
+  where
+  go : (b : Bool) → is-chunk (m .segments) o ≡ b → _≡_ {A = Option (ℕ × ℕ)} (Some (start, size)) (cond b (Some (place m o, room m o)) None) → start + size ≤ m .capacity
+  go true c f =
+      let both : _≡_ {A = ℕ × ℕ} (start, size) (place m o, room m o) = cc in
+      omega (arith, within-capacity limit m o sound c, ap (λ (x : ℕ × ℕ). x .0) both, ap (λ (x : ℕ × ℕ). x .1) both)
+  go false c f = let z : _≡_ {A = ℕ} 0 1 = cc in absurd (omega arith)

@@ -57,6 +57,10 @@ bucket gs o = distance o / home gs o .size
 abbrev pub is-chunk : List Segment → ℕ → Bool
 is-chunk gs o = eqb (distance o % home gs o .size) 0 && ltb (bucket gs o) (length (home gs o .taken))
 
+-- the bucket that it names, if it names one
+abbrev pub bucket-at : List Segment → ℕ → Option ℕ
+bucket-at gs o = cond (is-chunk gs o) (Some (bucket gs o)) None
+
 abbrev pub taken-at : List Segment → ℕ → Bool
 taken-at gs o = is-chunk gs o && getD (home gs o .taken) (bucket gs o) false
 
