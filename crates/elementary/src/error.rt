@@ -2,6 +2,8 @@
 ghost use mathlib.Core.Path.{_≡_};
 ghost use Rattle.elementary.specs.declared.error.Refusal.{Refusal};
 ghost use Rattle.elementary.specs.Refusals.{allocation-refusal, deallocation-refusal, creation-refusal, receiving-refusal, releasing-refusal, connection-refusal, loan-refusal, fill-refusal, send-refusal, return-refusal, receive-refusal, release-refusal, read-refusal, update-refusal, close-refusal, settings-refusal, number-alone};
+ghost use Rattle.elementary.specs.declared.error.SetUpError.the-variants.{NoMemory};
+use std::alloc::AllocError;
 
 // What a refusal tells: its number, and the number of the cause if it carries one.
 #[derive(Clone, Copy, PartialEq, Eq, Debug)]
@@ -299,5 +301,20 @@ pub impl Refused for SettingsError as SettingsErrorRefused {
 
     fn refusal(self) -> Refusal {
         by(self as u8)
+    }
+}
+
+// Why something is not set up: its settings, or want of memory, which has no number since it can come then alone.
+#[derive(Clone, Copy, PartialEq, Eq, Debug)]
+pub enum SetUpError {
+    OutOfRange,
+    NoMemory,
+}
+
+pub impl From<AllocError> for SetUpError as SetUpErrorFromAllocError {
+    ghost converts = { λ _ r. r ≡ NoMemory };
+
+    fn from(_e: AllocError) -> SetUpError {
+        SetUpError::NoMemory
     }
 }

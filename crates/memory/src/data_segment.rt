@@ -1,7 +1,8 @@
 // What a publisher's memory and a view of it promise.
 ghost use mathlib.Core.Path.{_≡_};
 ghost use Prim.Native.Nat.{ℕ};
-ghost use lib.ListN.{length};
+ghost use mathlib.Core.Bool.{false};
+ghost use lib.ListN.{length, getD};
 ghost use Rattle.std.specs.Results.{errPart};
 ghost use Rattle.rules.specs.Memory.{Mem, Sound, segment-at, bucket-at, taken-at, allocation-fault, Allocates, deallocation-fault, freed, start-of, placed};
 use elementary::error::AllocationError;
@@ -34,8 +35,8 @@ pub trait Segmented: Sized {
     fn capacity(&self) -> usize
         ensures { λ r. ⌜ r ≡ model (now (self .entry)) .capacity ⌝ };
 
-    fn is_taken(&self, offset: PointerOffset) -> bool
-        ensures { λ r. ⌜ r ≡ taken-at (model (now (self .entry)) .segments) (offset .value) ⌝ };
+    fn is_bucket_taken(&self, segment: usize, bucket: usize) -> bool
+        ensures { λ r. ⌜ r ≡ getD (segment-at (model (now (self .entry)) .segments) segment .taken) bucket false ⌝ };
 
     // The bucket of its segment that an offset names, if it names one.
     fn bucket(&self, offset: PointerOffset) -> Option<usize>
@@ -55,6 +56,15 @@ pub trait Segmented: Sized {
             Some(bucket)
         } else {
             None
+        }
+    }
+
+    fn is_taken(&self, offset: PointerOffset) -> bool
+        ensures { λ r. ⌜ r ≡ taken-at (model (now (self .entry)) .segments) (offset .value) ⌝ }
+    {
+        match self.bucket(offset) {
+            Some(bucket) => self.is_bucket_taken(usize::from(offset.segment_id()), bucket),
+            None => false,
         }
     }
 }

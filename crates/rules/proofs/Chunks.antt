@@ -2,11 +2,11 @@
 use Prim.Native.Nat.{ℕ, _+_, _*_, _/_, _%_, _^_, _≤_, _<_}
 use mathlib.Core.Path.{_≡_, refl, sym, _∙_, ap, subst}
 use mathlib.Core.List.{List, [], _∷_}
-use mathlib.Core.Bool.{Bool, true, false, cond, _&&_}
+use mathlib.Core.Bool.{Bool, true, false, not, cond, _&&_}
 use mathlib.Core.Logic.{_⊎_, inl, inr, ⊎-elim}
 use native.Mathlib.Omega.{arith}
 use native.Mathlib.Nat.{add-mul, mul-comm, mul-le-mul-right, mul-mod-left, mul-div-cancel}
-use lib.ListN.{length, getD}
+use lib.ListN.{length, getD, set}
 use lib.Dec.{eqb, ltb}
 use Rattle.std.proofs.shelf.Lists.{getD-past}
 use Rattle.std.proofs.shelf.Bits.{div-add-mod', div-mul-add, mod-mul-add}
@@ -15,7 +15,7 @@ use Rattle.std.proofs.shelf.Ways.{tells}
 use Rattle.std.specs.declared.option.Option.{Option}
 use Rattle.std.specs.declared.option.Option.the-variants.{Some, None}
 use Rattle.elementary.specs.Ids.{packed, distance, segment}
-use Rattle.rules.specs.Memory.{Mem, Segment, Sound, segment-at, no-segment, home, bucket, is-chunk, bucket-at, offset-of, end-of, start-of}
+use Rattle.rules.specs.Memory.{Mem, Segment, Sound, segment-at, no-segment, home, bucket, is-chunk, bucket-at, offset-of, end-of, start-of, with-segments, remarked, Takes}
 use Rattle.rules.specs.Bytes.{place, room}
 use Rattle.rules.specs.Laws.{No-byte-shared, Within-capacity}
 
@@ -137,3 +137,20 @@ located limit m o start size sound e = go (is-chunk (m .segments) o) refl e
       let both : _≡_ {A = ℕ × ℕ} (start, size) (place m o, room m o) = cc in
       omega (arith, within-capacity limit m o sound c, ap (λ (x : ℕ × ℕ). x .0) both, ap (λ (x : ℕ × ℕ). x .1) both)
   go false c f = let z : _≡_ {A = ℕ} 0 1 = cc in absurd (omega arith)
+
+-- to take the free bucket b of segment s
+pub takes-bucket : (m n : Mem) (asked s b : ℕ) → s < 256 → 0 < segment-at (m .segments) s .size → b < length (segment-at (m .segments) s .taken)
+    → getD (segment-at (m .segments) s .taken) b false ≡ false → asked ≤ segment-at (m .segments) s .size
+    → n ≡ with-segments m (set (m .segments) s (remarked (segment-at (m .segments) s) b true)) → Takes m asked (offset-of (m .segments) s b) n
+takes-bucket m n asked s b h pos lt free large after =
+    let gs = m .segments in
+    let o = offset-of gs s b in
+    let e = named gs s b h pos lt in
+    let eh : home gs o ≡ segment-at gs s = ap (segment-at gs) (e .0) in
+    record {
+      free = and-from _ _ (e .2) (ap (λ (g : Segment). not (getD (g .taken) (bucket gs o) false)) eh ∙ (ap (λ k. not (getD (segment-at gs s .taken) k false)) (e .1) ∙ ap not free));
+      large = omega (arith, ap (λ (g : Segment). g .size) eh);
+      after = after ∙ ap (with-segments m)
+        (sym (ap (λ k. set gs k (remarked (home gs o) (bucket gs o) true)) (e .0)
+        ∙ (ap (λ (g : Segment). set gs s (remarked g (bucket gs o) true)) eh
+        ∙ ap (λ k. set gs s (remarked (segment-at gs s) k true)) (e .1)))) }

@@ -1,4 +1,5 @@
 pub mod Memory
 pub mod Counts
 pub mod Bytes
+pub mod Pools
 pub mod Laws

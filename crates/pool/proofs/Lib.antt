@@ -1,0 +1,3 @@
+pub mod Pools
+pub mod Nexts
+pub mod Statics

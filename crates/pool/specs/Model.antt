@@ -1,0 +1,16 @@
+-- What the code's memories stand for.
+use Prim.Native.Nat.{ℕ}
+use Rattle.std.specs.Of.Vec.{vec-items, vec-len}
+use Rattle.rules.specs.Pools.{Pool}
+use Rattle.pool.specs.declared.pool_allocator.PoolAllocator.{PoolAllocator}
+use Rattle.pool.specs.declared.pool_allocator.SpareSegment.{SpareSegment}
+
+abbrev pub pool-of : PoolAllocator → Pool
+pool-of p = record {
+  buckets = record { start = p .start; size = p .«bucket_size»; taken = vec-items (p .taken) };
+  freed = vec-items (p .freed);
+  fresh = p .fresh }
+
+-- how many buckets a segment to be will have
+abbrev pub spare-count : SpareSegment → ℕ
+spare-count p = vec-len (p .taken)
