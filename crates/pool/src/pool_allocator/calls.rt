@@ -46,7 +46,7 @@ impl PoolAllocator {
     }
 
     // Whether a bucket as large as `size` can be taken.
-    pub(crate) fn fits(&self, size: usize) -> bool
+    pub(crate) fn serves(&self, size: usize) -> bool
         ensures { λ r. ⌜ r ≡ fits size (pool-of (now (self .entry))) ⌝ }
     {
         size <= self.bucket_size && (self.freed.len() > 0 || self.fresh < self.taken.len())

@@ -1,0 +1,4 @@
+// A bounded queue whose memory is taken once, when it is made.
+pub mod queue;
+#[cfg(test)]
+mod tests;
