@@ -1,2 +1,4 @@
 pub mod Ids
 pub mod Refusals
+pub mod Settings
+pub mod Handlers

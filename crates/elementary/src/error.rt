@@ -4,12 +4,24 @@ ghost use Rattle.elementary.specs.declared.error.Refusal.{Refusal};
 ghost use Rattle.elementary.specs.Refusals.{allocation-refusal, deallocation-refusal, creation-refusal, receiving-refusal, releasing-refusal, connection-refusal, loan-refusal, fill-refusal, send-refusal, return-refusal, receive-refusal, release-refusal, read-refusal, update-refusal, close-refusal, settings-refusal, number-alone};
 ghost use Rattle.elementary.specs.declared.error.SetUpError.the-variants.{NoMemory};
 use std::alloc::AllocError;
+use std::fmt;
 
-// What a refusal tells: its number, and the number of the cause if it carries one.
+// What a refusal tells: its number, and the number of the cause if it carries one. It is what is printed and compared of an
+// error, so that the errors themselves derive neither.
 #[derive(Clone, Copy, PartialEq, Eq, Debug)]
 pub struct Refusal {
     pub number: u8,
     pub cause: Option<u8>,
+}
+
+pub impl fmt::Display for Refusal as RefusalDisplay {
+    fn fmt<W: fmt::Write>(&self, f: &mut fmt::Formatter<W>) -> fmt::Result {
+        let number = self.number;
+        match self.cause {
+            Some(cause) => write!(f, "{number} {cause}"),
+            None => write!(f, "{number}"),
+        }
+    }
 }
 
 pub trait Refused: Sized {
@@ -29,7 +41,7 @@ fn by(number: u8) -> Refusal
 }
 
 // Why a connection takes no offset. The sender turns each case into an answer of its own, so that none has a number.
-#[derive(Clone, Copy, PartialEq, Eq, Debug)]
+#[derive(Clone, Copy)]
 pub enum ZeroCopySendError {
     NotConnected,
     InternalError,
@@ -39,7 +51,7 @@ pub enum ZeroCopySendError {
 }
 
 // Why a memory gives no bucket.
-#[derive(Clone, Copy, PartialEq, Eq, Debug)]
+#[derive(Clone, Copy)]
 pub enum AllocationError {
     SizeTooLarge = 3,
     AlignmentFailure = 4,
@@ -47,13 +59,13 @@ pub enum AllocationError {
 }
 
 // Why a memory frees no bucket.
-#[derive(Clone, Copy, PartialEq, Eq, Debug)]
+#[derive(Clone, Copy)]
 pub enum DeallocationError {
     NotTaken = 15,
 }
 
 // Why an end of a connection is not created: the cause that a refused update carries.
-#[derive(Clone, Copy, PartialEq, Eq, Debug)]
+#[derive(Clone, Copy)]
 pub enum ZeroCopyCreationError {
     IncompatibleBufferSize = 20,
     AnotherInstanceIsAlreadyConnected = 21,
@@ -62,27 +74,27 @@ pub enum ZeroCopyCreationError {
 }
 
 // Why a connection hands out no offset.
-#[derive(Clone, Copy, PartialEq, Eq, Debug)]
+#[derive(Clone, Copy)]
 pub enum ZeroCopyReceiveError {
     ReceiveWouldExceedMaxBorrowValue = 14,
     NotConnected = 15,
 }
 
 // Why a connection takes no offset back.
-#[derive(Clone, Copy, PartialEq, Eq, Debug)]
+#[derive(Clone, Copy)]
 pub enum ZeroCopyReleaseError {
     NotBorrowed = 15,
     RetrieveBufferFull = 16,
 }
 
 // There is no such connection, or the caller's end of it is not attached.
-#[derive(Clone, Copy, PartialEq, Eq, Debug)]
+#[derive(Clone, Copy)]
 pub enum ConnectionError {
     NotConnected = 15,
 }
 
 // Why a publisher lends no chunk.
-#[derive(Clone, Copy, PartialEq, Eq, Debug)]
+#[derive(Clone, Copy)]
 pub enum LoanError {
     ExceedsMaxLoans = 2,
     ExceedsMaxLoanSize = 3,
@@ -92,14 +104,14 @@ pub enum LoanError {
 }
 
 // Why a loaned chunk is not filled.
-#[derive(Clone, Copy, PartialEq, Eq, Debug)]
+#[derive(Clone, Copy)]
 pub enum FillError {
     LoanNotLive = 6,
     OutOfBounds = 7,
 }
 
 // Why a send fails. All but the first end the loan.
-#[derive(Clone, Copy, PartialEq, Eq, Debug)]
+#[derive(Clone, Copy)]
 pub enum SendError {
     LoanNotLive,
     ConnectionBrokenSinceSenderNoLongerExists,
@@ -111,33 +123,33 @@ pub enum SendError {
 }
 
 // Why a loan is not returned.
-#[derive(Clone, Copy, PartialEq, Eq, Debug)]
+#[derive(Clone, Copy)]
 pub enum ReturnError {
     LoanNotLive = 6,
 }
 
 // Why a subscriber receives nothing though there is data.
-#[derive(Clone, Copy, PartialEq, Eq, Debug)]
+#[derive(Clone, Copy)]
 pub enum ReceiveError {
     ExceedsMaxBorrows = 14,
 }
 
 // Why a received chunk is not given back.
-#[derive(Clone, Copy, PartialEq, Eq, Debug)]
+#[derive(Clone, Copy)]
 pub enum ReleaseError {
     NotBorrowed = 15,
     RetrieveBufferFull = 16,
 }
 
 // Why a received chunk is not read.
-#[derive(Clone, Copy, PartialEq, Eq, Debug)]
+#[derive(Clone, Copy)]
 pub enum ReadError {
     OutOfBounds = 7,
     NotBorrowed = 15,
 }
 
 // Why a subscriber's list of publishers is not taken over, or not whole.
-#[derive(Clone, Copy, PartialEq, Eq, Debug)]
+#[derive(Clone, Copy)]
 pub enum UpdateError {
     MalformedList,
     ConnectionFailure(ZeroCopyCreationError),
@@ -146,13 +158,13 @@ pub enum UpdateError {
 }
 
 // Why a publisher is not closed.
-#[derive(Clone, Copy, PartialEq, Eq, Debug)]
+#[derive(Clone, Copy)]
 pub enum CloseError {
     ConnectionBrokenSinceSenderNoLongerExists = 8,
 }
 
 // Why something is not made or not set.
-#[derive(Clone, Copy, PartialEq, Eq, Debug)]
+#[derive(Clone, Copy)]
 pub enum SettingsError {
     OutOfRange = 1,
 }
@@ -304,8 +316,8 @@ pub impl Refused for SettingsError as SettingsErrorRefused {
     }
 }
 
-// Why something is not set up: its settings, or want of memory, which has no number since it can come then alone.
-#[derive(Clone, Copy, PartialEq, Eq, Debug)]
+// Why something is not set up. Want of memory has no number, since no later call can meet it.
+#[derive(Clone, Copy, Debug)]
 pub enum SetUpError {
     OutOfRange,
     NoMemory,

@@ -1,4 +1,6 @@
-// What all layers share: names of ports and chunks, refusals, settings, handlers, and the bounded queue.
+// What all layers share: names of ports and chunks, refusals, settings and backpressure handlers.
+pub mod backpressure;
 pub mod error;
 pub mod pointer_offset;
 pub mod port_id;
+pub mod settings;

@@ -1,6 +1,6 @@
 -- The code's counts, read and changed at one segment.
 use Prim.Native.Nat.{ℕ, _≤_, _<_}
-use mathlib.Core.Path.{_≡_, refl, sym, _∙_, ap, subst}
+use mathlib.Core.Path.{_≡_, sym, _∙_, ap}
 use mathlib.Core.List.{List, [], map}
 use native.Mathlib.Omega.{arith}
 use mathlib.Core.Logic.{⊎-elim}
@@ -38,9 +38,9 @@ rows-changed v s x w f lt e c =
 pub zeros-low : (n k : ℕ) → getD (replicate {A = ℕ} n 0) k 0 ≤ 10
 zeros-low n k =
     ⊎-elim
-      (λ lt. omega (arith, getD-replicate {A = ℕ} n k 0 0 lt))
-      (λ past. let h : length (replicate {A = ℕ} n 0) ≤ k = omega (arith, length-replicate {A = ℕ} n 0) in omega (arith, getD-past (replicate {A = ℕ} n 0) k 0 h))
-      (cases-lt k n)
+    (λ lt. omega (arith, getD-replicate {A = ℕ} n k 0 0 lt))
+    (λ past. let h : length (replicate {A = ℕ} n 0) ≤ k = omega (arith, length-replicate {A = ℕ} n 0) in omega (arith, getD-past (replicate {A = ℕ} n 0) k 0 h))
+    (cases-lt k n)
 
 -- a count that is at its cap stays
 pub capped : (ns : List ℕ) (b n : ℕ) → n ≡ getD ns b 0 → 10 ≤ n → ns ≡ set ns b (raised (getD ns b 0))

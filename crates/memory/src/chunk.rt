@@ -36,7 +36,12 @@ fn overwrite(bytes: &mut [u8], start: usize, source: &[u8])
 }
 
 // Writes `source` from the chunk's place on, and no other byte.
-pub fn fill<M: Segmented>(memory: &M, bytes: &mut [u8], offset: PointerOffset, source: &[u8]) -> Result<(), FillError>
+pub fn fill<M: Segmented>(
+    memory: &M,
+    bytes: &mut [u8],
+    offset: PointerOffset,
+    source: &[u8],
+) -> Result<(), FillError>
     ensures fault { λ r. ⌜ errPart r ≡ fill-fault (M·Segmented .model (now (memory .entry))) (now (bytes .entry)) (offset .value) (now (source .entry)) ⌝ }
     ensures after { λ _. ⌜ now (bytes .exit) ≡ filled (M·Segmented .model (now (memory .entry))) (now (bytes .entry)) (offset .value) (now (source .entry)) ⌝ }
 {
@@ -54,7 +59,11 @@ pub fn fill<M: Segmented>(memory: &M, bytes: &mut [u8], offset: PointerOffset, s
 }
 
 // Hands out the payload of a taken chunk, without a copy.
-pub fn payload<'a, M: Segmented>(memory: &M, bytes: &'a [u8], offset: PointerOffset) -> Result<&'a [u8], ReadError>
+pub fn payload<'a, M: Segmented>(
+    memory: &M,
+    bytes: &'a [u8],
+    offset: PointerOffset,
+) -> Result<&'a [u8], ReadError>
     ensures fault { λ r. ⌜ errPart r ≡ read-fault (M·Segmented .model (now (memory .entry))) (now (bytes .entry)) (offset .value) ⌝ }
     ensures part { λ r. ⌜ made r (λ p. now p ≡ payload (M·Segmented .model (now (memory .entry))) (now (bytes .entry)) (offset .value)) ⌝ }
 {

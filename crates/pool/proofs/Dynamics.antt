@@ -1,11 +1,11 @@
 -- A dynamic memory's calls, in the words that hold of every memory.
-use Prim.Native.Nat.{ℕ, zero, suc, _+_, _-_, _*_, _/_, _%_, _^_, _≤_, _<_}
+use Prim.Native.Nat.{ℕ, zero, suc, _+_, _-_, _*_, _≤_, _<_}
 use mathlib.Core.Path.{_≡_, refl, sym, _∙_, ap, subst}
-use mathlib.Core.List.{List, [], _∷_, _++_, map}
+use mathlib.Core.List.{List, [], _∷_, _++_}
 use mathlib.Core.Bool.{Bool, true, false, cond, _&&_, _||_}
 use mathlib.Core.Logic.{_⊎_, inl, inr, ⊎-elim}
 use native.Mathlib.Omega.{arith}
-use native.Mathlib.Nat.{mul-le-mul, zero-mul}
+use native.Mathlib.Nat.{mul-le-mul}
 use lib.Dec.{ltb, leb}
 use lib.ListN.{length, getD, set, drop, replicate}
 use Rattle.std.specs.Of.Vec.{vec-items, vec-len}
@@ -13,24 +13,24 @@ use Rattle.std.specs.Options.{isSome}
 use Rattle.std.specs.Results.{errPart}
 use Rattle.std.specs.declared.option.Option.{Option}
 use Rattle.std.specs.declared.option.Option.the-variants.{Some, None}
-use Rattle.std.specs.declared.result.Result.the-variants.{Ok, Err}
-use Rattle.std.proofs.shelf.Lists.{drop-more, drop-all, map-set, map-push, length-push, getD-push, length-replicate, getD-replicate, length-map, length-set}
-use Rattle.std.proofs.shelf.Tests.{cases-lt, cases-bool, cond-true, cond-false, and-parts, leb-true, le-leb, ltb-true, lt-ltb, or-left, or-right, or-from, false≢true}
+use Rattle.std.specs.declared.result.Result.the-variants.{Err}
+use Rattle.std.proofs.shelf.Lists.{drop-more, drop-all, map-set, map-push, getD-push, length-replicate, getD-replicate, length-set}
+use Rattle.std.proofs.shelf.Tests.{cases-bool, cond-true, cond-false, and-parts, leb-true, ltb-true, lt-ltb, or-from, false≢true}
 use Rattle.std.proofs.shelf.Bits.{mod-mul-add}
 use Rattle.std.proofs.shelf.Ways.{tells}
 use Rattle.elementary.specs.Ids.{packed, segment}
 use Rattle.elementary.specs.declared.error.AllocationError.{AllocationError}
 use Rattle.elementary.specs.declared.error.AllocationError.the-variants.{OutOfMemory}
-use Rattle.rules.specs.Memory.{Mem, Segment, Sound, Fair, segment-at, no-segment, end-of, some-false, some-free, request-fault, else-fault, allocation-fault, Allocates, Takes, Grows, remarked, with-segments, blank, marked, freed, taken-at, bucket, bucket-at}
+use Rattle.rules.specs.Memory.{Segment, Sound, Fair, segment-at, some-free, request-fault, else-fault, allocation-fault, Allocates, Takes, Grows, remarked, with-segments, blank, marked, freed, taken-at, bucket, bucket-at}
 use Rattle.rules.specs.Pools.{Pool, Dynamic, by, next, took, took-next, checked, handed, handed-by, new-pool, no-pool, pool-at, segments-of, with-pools, fits, fitting, serving, readied, taken-in, can-grow, grown, rounded, dynamic-mem, dynamic-answer, dynamic-after, dynamic-freed, gave}
-use Rattle.rules.proofs.Chunks.{takes-bucket, named}
+use Rattle.rules.proofs.Chunks.{takes-bucket}
 use Rattle.pool.specs.Model.{pool-of, pools-in, spare-count}
 use Rattle.pool.specs.Dynamic.{dynamic-of}
 use Rattle.pool.specs.declared.pool_allocator.PoolAllocator.{PoolAllocator}
 use Rattle.pool.specs.declared.pool_allocator.SpareSegment.{SpareSegment}
 use Rattle.pool.specs.declared.dynamic_memory.DynamicMemory.{DynamicMemory}
 use Rattle.pool.proofs.Nexts.{next-some, next-free, granted}
-use Rattle.pool.proofs.Layouts.{segments-at, segments-length, pools-length, push-new, spares-pop}
+use Rattle.pool.proofs.Layouts.{segments-at, segments-length, pools-length, spares-pop}
 
 -- ONE POOL OF THE CODE'S LIST
 
@@ -74,14 +74,14 @@ found : (asked : ℕ) (ps : List Pool) (n s : ℕ) → fitting asked ps n ≡ So
 found asked [] n s e = let z : _≡_ {A = ℕ} 0 1 = cc in absurd (omega arith)
 found asked (p ∷ ps) n s e =
     ⊎-elim
-      (λ yes. let f : _≡_ {A = Option ℕ} (Some n) (Some s) = sym (cond-true _ _ _ yes) ∙ e in
-          let at : n ≡ s = cc in
-          let z : s - n ≡ 0 = omega arith in
-          (omega arith, ap (λ k. fits asked (pool-at (p ∷ ps) k)) z ∙ yes))
-      (λ no. let r = found asked ps (n + 1) s (sym (cond-false _ _ _ no) ∙ e) in
-          let z : s - n ≡ suc (s - (n + 1)) = omega (arith, r .0) in
-          (omega (arith, r .0), ap (λ k. fits asked (pool-at (p ∷ ps) k)) z ∙ r .1))
-      (cases-bool (fits asked p))
+    (λ yes. let f : _≡_ {A = Option ℕ} (Some n) (Some s) = sym (cond-true _ _ _ yes) ∙ e in
+    let at : n ≡ s = cc in
+    let z : s - n ≡ 0 = omega arith in
+    (omega arith, ap (λ k. fits asked (pool-at (p ∷ ps) k)) z ∙ yes))
+    (λ no. let r = found asked ps (n + 1) s (sym (cond-false _ _ _ no) ∙ e) in
+    let z : s - n ≡ suc (s - (n + 1)) = omega (arith, r .0) in
+    (omega (arith, r .0), ap (λ k. fits asked (pool-at (p ∷ ps) k)) z ∙ r .1))
+    (cases-bool (fits asked p))
 
 isSome-cond : (b : Bool) (n : ℕ) (x : Option ℕ) → isSome (cond b (Some n) x) ≡ (b || isSome x)
 isSome-cond true n x = refl
@@ -107,10 +107,11 @@ dynamic-sound m =
       some = omega (arith, m .sized .0);
       few = omega (arith, m .four);
       shaped = λ s lt.
-        let f : Fair (segment-at (segments-of ps) s .size) (length (segment-at (segments-of ps) s .taken)) =
-            subst (λ (g : Segment). Fair (g .size) (length (g .taken))) (sym (segments-at ps s)) (fair-at (vec-items (m .live)) s (omega arith)) in
-        record { fair = f; largest = f .2; within = omega (arith, m .laid s lt, m .sized .1); low = omega (arith, m .laid s lt, m .sized .2, m .four) };
-      apart = λ s t lt lk. inl (m .rising s t lt lk) }
+          let f : Fair (segment-at (segments-of ps) s .size) (length (segment-at (segments-of ps) s .taken)) =
+          subst (λ (g : Segment). Fair (g .size) (length (g .taken))) (sym (segments-at ps s)) (fair-at (vec-items (m .live)) s (omega arith)) in
+          record { fair = f; largest = f .2; within = omega (arith, m .laid s lt, m .sized .1); low = omega (arith, m .laid s lt, m .sized .2, m .four) };
+      apart = λ s t lt lk. inl (m .rising s t lt lk);
+    }
 
 -- ONE POOL CHANGED, ONE POOL MORE
 
@@ -118,7 +119,7 @@ pub mem-set : (d : Dynamic) (s : ℕ) (p : Pool) → dynamic-mem (with-pools d (
 mem-set d s p =
     ap (λ gs. record { segments = gs; largest = 65536; capacity = d .capacity; grows = can-grow (with-pools d (set (d .pools) s p)) }) (map-set (λ (q : Pool). q .buckets) (d .pools) s p)
     ∙ ap (λ n. record { segments = set (segments-of (d .pools)) s (p .buckets); largest = 65536; capacity = d .capacity; grows = λ asked. ltb n 4 && leb (d .end + rounded asked * d .count) (d .capacity) })
-        (length-set (d .pools) s p)
+    (length-set (d .pools) s p)
 
 -- what was freed
 freed-as : (d : Dynamic) (o : ℕ) → dynamic-mem (with-pools d (set (d .pools) (segment o) (gave (pool-at (d .pools) (segment o)) (bucket (segments-of (d .pools)) o))))
@@ -130,10 +131,10 @@ freed-as d o =
 pub dynamic-frees : (d : Dynamic) (o : ℕ) → dynamic-mem (dynamic-freed d o) ≡ freed (dynamic-mem d) o
 dynamic-frees d o = go (taken-at (segments-of (d .pools)) o)
   where
-  go : (t : Bool) → dynamic-mem (cond t (with-pools d (set (d .pools) (segment o) (gave (pool-at (d .pools) (segment o)) (bucket (segments-of (d .pools)) o)))) d)
-      ≡ with-segments (dynamic-mem d) (cond t (marked (segments-of (d .pools)) o false) (segments-of (d .pools)))
-  go true = freed-as d o
-  go false = refl
+    go : (t : Bool) → dynamic-mem (cond t (with-pools d (set (d .pools) (segment o) (gave (pool-at (d .pools) (segment o)) (bucket (segments-of (d .pools)) o)))) d)
+        ≡ with-segments (dynamic-mem d) (cond t (marked (segments-of (d .pools)) o false) (segments-of (d .pools)))
+    go true = freed-as d o
+    go false = refl
 
 -- the bucket that a taken offset names
 pub taken-bucket : (ps : List Pool) (o b : ℕ) → taken-at (segments-of ps) o ≡ true → Some b ≡ bucket-at (segments-of ps) o
@@ -167,12 +168,12 @@ taken-of m asked s b large e =
     let pos : 0 < segment-at gs s .size = omega (arith, r .fair .1, ap (λ (z : Segment). z .size) g) in
     let lt : b < length (segment-at gs s .taken) = omega (arith, r .within, ap (λ (z : Segment). length (z .taken)) g) in
     subst (λ z. Takes (dynamic-mem d) asked (packed (b * z) s) (dynamic-mem (taken-in d s))) (ap (λ (z : Segment). z .size) g)
-      (takes-bucket (dynamic-mem d) (dynamic-mem (taken-in d s)) asked s b short pos lt
-        (ap (λ (z : Segment). getD (z .taken) b false) g ∙ r .free)
-        (omega (arith, large, ap (λ (z : Segment). z .size) g))
-        (mem-set d s (took (pool-at (d .pools) s))
-        ∙ (ap (λ x. with-segments (dynamic-mem d) (set gs s (by x (pool-at (d .pools) s) (took-next (pool-at (d .pools) s)) .buckets))) e
-        ∙ ap (λ (z : Segment). with-segments (dynamic-mem d) (set gs s (remarked z b true))) (sym g))))
+    (takes-bucket (dynamic-mem d) (dynamic-mem (taken-in d s)) asked s b short pos lt
+    (ap (λ (z : Segment). getD (z .taken) b false) g ∙ r .free)
+    (omega (arith, large, ap (λ (z : Segment). z .size) g))
+    (mem-set d s (took (pool-at (d .pools) s))
+    ∙ (ap (λ x. with-segments (dynamic-mem d) (set gs s (by x (pool-at (d .pools) s) (took-next (pool-at (d .pools) s)) .buckets))) e
+    ∙ ap (λ (z : Segment). with-segments (dynamic-mem d) (set gs s (remarked z b true))) (sym g))))
 
 -- the first bucket of a new pool
 new-next : (start size count : ℕ) → 1 ≤ count → next (new-pool start size count) ≡ Some 0
@@ -192,7 +193,8 @@ grows-by d asked e = record {
   count = d .count;
   segments = map-push (λ (p : Pool). p .buckets) (d .pools) (new-pool (d .end) (rounded asked) (d .count));
   largest = refl;
-  capacity = refl }
+  capacity = refl;
+}
 
 -- the new pool's bucket 0 taken
 taken-new : (m : DynamicMemory) (asked : ℕ) → 1 ≤ asked → asked ≤ 65536 → can-grow (dynamic-of m) asked ≡ true
@@ -212,12 +214,12 @@ taken-new m asked some few e =
     let lt : 0 < length (segment-at gs s .taken) = omega (arith, ap (λ (z : Segment). length (z .taken)) seg, length-replicate (d .count) false) in
     let n : next (pool-at (g .pools) s) ≡ Some 0 = ap next at ∙ new-next (d .end) (rounded asked) (d .count) one in
     subst (λ z. Takes (dynamic-mem g) asked (packed (0 * z) s) (dynamic-mem (taken-in g s))) size
-      (takes-bucket (dynamic-mem g) (dynamic-mem (taken-in g s)) asked s 0 short pos lt
-        (ap (λ (z : Segment). getD (z .taken) 0 false) seg ∙ getD-replicate (d .count) 0 false false one)
-        (omega arith)
-        (mem-set g s (took (pool-at (g .pools) s))
-        ∙ (ap (λ x. with-segments (dynamic-mem g) (set gs s (by x (pool-at (g .pools) s) (took-next (pool-at (g .pools) s)) .buckets))) n
-        ∙ ap (λ (z : Segment). with-segments (dynamic-mem g) (set gs s (remarked z 0 true))) (sym (segments-at (g .pools) s)))))
+    (takes-bucket (dynamic-mem g) (dynamic-mem (taken-in g s)) asked s 0 short pos lt
+    (ap (λ (z : Segment). getD (z .taken) 0 false) seg ∙ getD-replicate (d .count) 0 false false one)
+    (omega arith)
+    (mem-set g s (took (pool-at (g .pools) s))
+    ∙ (ap (λ x. with-segments (dynamic-mem g) (set gs s (by x (pool-at (g .pools) s) (took-next (pool-at (g .pools) s)) .buckets))) n
+    ∙ ap (λ (z : Segment). with-segments (dynamic-mem g) (set gs s (remarked z 0 true))) (sym (segments-at (g .pools) s)))))
 
 -- a request that passed its check asks for something
 asked-some : (largest asked align : ℕ) → request-fault largest asked align ≡ None → 1 ≤ asked
@@ -238,19 +240,22 @@ Answered d asked f s r =
 answered-old : (m : DynamicMemory) (asked s : ℕ) → fitting asked (dynamic-of m .pools) 0 ≡ Some s → Answered (dynamic-of m) asked None (Some s) (dynamic-of m)
 answered-old m asked s e = go (next (pool-at ps s)) refl (fit .1)
   where
-  ps : List Pool
-  ps = dynamic-of m .pools
-  z : ℕ
-  z = pool-at ps s .buckets .size
-  fit : (leb asked z ≡ true) × (isSome (next (pool-at ps s)) ≡ true)
-  fit = let same : s - 0 ≡ s = omega arith in
+    ps : List Pool
+    ps = dynamic-of m .pools
+
+    z : ℕ
+    z = pool-at ps s .buckets .size
+
+    fit : (leb asked z ≡ true) × (isSome (next (pool-at ps s)) ≡ true)
+    fit = let same : s - 0 ≡ s = omega arith in
         and-parts _ _ (ap (λ k. fits asked (pool-at ps k)) (sym same) ∙ found asked ps 0 s e .1)
-  go : (y : Option ℕ) → next (pool-at ps s) ≡ y → isSome y ≡ true → Answered (dynamic-of m) asked None (Some s) (dynamic-of m)
-  go None n i = absurd (false≢true i)
-  go (Some b) n i =
-      let free : some-free (segments-of ps) asked ≡ true = free-fits (vec-items (m .live)) asked 0 ∙ ap isSome e in
-      subst (λ y. (errPart (handed z s y) ≡ cond (some-free (segments-of ps) asked || can-grow (dynamic-of m) asked) None (Some OutOfMemory))
-            × Allocates (dynamic-mem (dynamic-of m)) asked (handed z s y) (dynamic-mem (taken-in (dynamic-of m) s))) (sym n)
+
+    go : (y : Option ℕ) → next (pool-at ps s) ≡ y → isSome y ≡ true → Answered (dynamic-of m) asked None (Some s) (dynamic-of m)
+    go None n i = absurd (false≢true i)
+    go (Some b) n i =
+        let free : some-free (segments-of ps) asked ≡ true = free-fits (vec-items (m .live)) asked 0 ∙ ap isSome e in
+        subst (λ y. (errPart (handed z s y) ≡ cond (some-free (segments-of ps) asked || can-grow (dynamic-of m) asked) None (Some OutOfMemory))
+        × Allocates (dynamic-mem (dynamic-of m)) asked (handed z s y) (dynamic-mem (taken-in (dynamic-of m) s))) (sym n)
         (enough (some-free (segments-of ps) asked) (can-grow (dynamic-of m) asked) (inl free), inl (taken-of m asked s b (leb-true _ _ (fit .0)) n))
 
 -- a new pool serves
@@ -262,28 +267,31 @@ answered-new m asked some few g =
     let p = new-pool (d .end) (rounded asked) (d .count) in
     let at : pool-at (grown d asked .pools) s ≡ p = getD-push (d .pools) p no-pool s refl in
     let n : handed-by (grown d asked .pools) s ≡ handed (rounded asked) s (Some 0) =
-        ap (λ (q : Pool). handed (q .buckets .size) s (next q)) at ∙ ap (handed (rounded asked) s) (new-next (d .end) (rounded asked) (d .count) (m .sized .3)) in
+    ap (λ (q : Pool). handed (q .buckets .size) s (next q)) at ∙ ap (handed (rounded asked) s) (new-next (d .end) (rounded asked) (d .count) (m .sized .3)) in
     let count : segment (packed (0 * rounded asked) s) ≡ length (segments-of (d .pools)) =
-        mod-mul-add (0 * rounded asked) 256 s (omega (arith, grow-few d asked g)) ∙ sym (segments-length (d .pools)) in
+    mod-mul-add (0 * rounded asked) 256 s (omega (arith, grow-few d asked g)) ∙ sym (segments-length (d .pools)) in
     subst (λ x. (errPart x ≡ cond (some-free (segments-of (d .pools)) asked || can-grow d asked) None (Some OutOfMemory))
-          × Allocates (dynamic-mem d) asked x (dynamic-mem (taken-in (grown d asked) s))) (sym n)
-      ( enough (some-free (segments-of (d .pools)) asked) (can-grow d asked) (inr g)
-      , inr (dynamic-mem (grown d asked), grows-by d asked g, count, taken-new m asked some few g))
+    × Allocates (dynamic-mem d) asked x (dynamic-mem (taken-in (grown d asked) s))) (sym n) (
+      enough (some-free (segments-of (d .pools)) asked) (can-grow d asked) (inr g),
+      inr (dynamic-mem (grown d asked), grows-by d asked g, count, taken-new m asked some few g),
+    )
 
 pub dynamic-allocates : (m : DynamicMemory) (asked align : ℕ)
     → (errPart (dynamic-answer (dynamic-of m) asked align) ≡ allocation-fault (dynamic-mem (dynamic-of m)) asked align)
     × Allocates (dynamic-mem (dynamic-of m)) asked (dynamic-answer (dynamic-of m) asked align) (dynamic-mem (dynamic-after (dynamic-of m) asked align))
 dynamic-allocates m asked align = go (request-fault 65536 asked align) refl
   where
-  d : Dynamic
-  d = dynamic-of m
-  serves : request-fault 65536 asked align ≡ None → (x : Option ℕ) (g : Bool) → fitting asked (d .pools) 0 ≡ x → can-grow d asked ≡ g
-      → Answered d asked None (by x (cond g (Some (length (d .pools))) None) (λ s. Some s)) (by x (cond g (grown d asked) d) (λ s. d))
-  serves ef (Some s) g ex eg = answered-old m asked s ex
-  serves ef None true ex eg = answered-new m asked (asked-some 65536 asked align ef) (granted 65536 asked align ef) eg
-  serves ef None false ex eg =
-      let full : some-free (segments-of (d .pools)) asked ≡ false = free-fits (vec-items (m .live)) asked 0 ∙ ap isSome ex in
-      (sym (cond-false _ _ _ (or-from _ _ full eg)), refl)
-  go : (f : Option AllocationError) → request-fault 65536 asked align ≡ f → Answered d asked f (serving d asked) (readied d asked)
-  go (Some e) ef = (refl, refl)
-  go None ef = serves ef (fitting asked (d .pools) 0) (can-grow d asked) refl refl
+    d : Dynamic
+    d = dynamic-of m
+
+    serves : request-fault 65536 asked align ≡ None → (x : Option ℕ) (g : Bool) → fitting asked (d .pools) 0 ≡ x → can-grow d asked ≡ g
+        → Answered d asked None (by x (cond g (Some (length (d .pools))) None) (λ s. Some s)) (by x (cond g (grown d asked) d) (λ s. d))
+    serves ef (Some s) g ex eg = answered-old m asked s ex
+    serves ef None true ex eg = answered-new m asked (asked-some 65536 asked align ef) (granted 65536 asked align ef) eg
+    serves ef None false ex eg =
+        let full : some-free (segments-of (d .pools)) asked ≡ false = free-fits (vec-items (m .live)) asked 0 ∙ ap isSome ex in
+        (sym (cond-false _ _ _ (or-from _ _ full eg)), refl)
+
+    go : (f : Option AllocationError) → request-fault 65536 asked align ≡ f → Answered d asked f (serving d asked) (readied d asked)
+    go (Some e) ef = (refl, refl)
+    go None ef = serves ef (fitting asked (d .pools) 0) (can-grow d asked) refl refl

@@ -5,16 +5,16 @@ use mathlib.Core.List.{List, [], _∷_, _++_, map}
 use mathlib.Core.Logic.{⊎-elim}
 use native.Mathlib.Omega.{arith}
 use native.Mathlib.Nat.{zero-add}
-use lib.ListN.{length, getD, set, replicate}
+use lib.ListN.{length, getD, set}
 use Rattle.std.specs.Of.Vec.{vec-items, vec-len}
 use Rattle.std.specs.declared.vec.Vec.{Vec}
 use Rattle.std.specs.declared.alloc.Global.{Global}
 use Rattle.std.specs.declared.option.Option.{Option}
 use Rattle.std.specs.declared.option.Option.the-variants.{Some, None}
-use Rattle.std.proofs.shelf.Lists.{getD-set-same, getD-set-other, set-past, length-set, getD-map, getD-past, length-map, map-set, map-push, length-push, getD-append-left, getD-push, length-replicate}
+use Rattle.std.proofs.shelf.Lists.{getD-set-same, getD-set-other, set-past, length-set, getD-map, getD-past, length-map, map-set, map-push, length-push, getD-append-left, getD-push}
 use Rattle.std.proofs.shelf.Tests.{cases-lt, cases-eq}
-use Rattle.rules.specs.Memory.{Segment, segment-at, no-segment, end-of, remarked}
-use Rattle.rules.specs.Pools.{Pool, by, next, took, took-next, gave, new-pool, pool-at, no-pool, segments-of}
+use Rattle.rules.specs.Memory.{Segment, segment-at, no-segment, end-of}
+use Rattle.rules.specs.Pools.{Pool, by, next, took, took-next, gave, pool-at, no-pool, segments-of}
 use Rattle.pool.specs.Model.{pool-of, pools-in, spare-count}
 use Rattle.pool.specs.Layout.{Laid, Rising, Even, Spares}
 use Rattle.pool.specs.declared.pool_allocator.PoolAllocator.{PoolAllocator}
@@ -61,12 +61,12 @@ alike-end g h a = ap (λ s. s + h .size * length (h .taken)) (a .start) ∙ (ap 
 alike-at : (gs : List Segment) (s : ℕ) (h : Segment) → Alike (segment-at gs s) h → (k : ℕ) → Alike (segment-at gs k) (segment-at (set gs s h) k)
 alike-at gs s h a k =
     ⊎-elim
-      (λ same. ⊎-elim
-        (λ lt. rw same (rw (getD-set-same gs s h no-segment lt) a))
-        (λ past. rw (set-past gs s h past) (record { start = refl; size = refl; count = refl }))
-        (cases-lt s (length gs)))
-      (λ other. rw (getD-set-other gs s k h no-segment other) (record { start = refl; size = refl; count = refl }))
-      (cases-eq k s)
+    (λ same. ⊎-elim
+    (λ lt. rw same (rw (getD-set-same gs s h no-segment lt) a))
+    (λ past. rw (set-past gs s h past) (record { start = refl; size = refl; count = refl }))
+    (cases-lt s (length gs)))
+    (λ other. rw (getD-set-other gs s k h no-segment other) (record { start = refl; size = refl; count = refl }))
+    (cases-eq k s)
 
 pub layout-set : (gs : List Segment) (s : ℕ) (h : Segment) (end count : ℕ) → Alike (segment-at gs s) h → Layout gs end count → Layout (set gs s h) end count
 layout-set gs s h end count a l =
@@ -75,15 +75,16 @@ layout-set gs s h end count a l =
     record {
       laid = λ k lt. omega (arith, e k, l .laid k (omega arith));
       rising = λ j k lt lk. omega (arith, e j, alike-at gs s h a k .start, l .rising j k lt (omega arith));
-      even = λ k lt. alike-at gs s h a k .count ∙ l .even k (omega arith) }
+      even = λ k lt. alike-at gs s h a k .count ∙ l .even k (omega arith);
+    }
 
 -- taking and giving back change marks alone
 pub alike-took : (p : Pool) → Alike (p .buckets) (took p .buckets)
 alike-took p = go (next p)
   where
-  go : (x : Option ℕ) → Alike (p .buckets) (by x p (took-next p) .buckets)
-  go None = record { start = refl; size = refl; count = refl }
-  go (Some b) = record { start = refl; size = refl; count = length-set (p .buckets .taken) b _ }
+    go : (x : Option ℕ) → Alike (p .buckets) (by x p (took-next p) .buckets)
+    go None = record { start = refl; size = refl; count = refl }
+    go (Some b) = record { start = refl; size = refl; count = length-set (p .buckets .taken) b _ }
 
 pub alike-gave : (p : Pool) (b : ℕ) → Alike (p .buckets) (gave p b .buckets)
 alike-gave p b = record { start = refl; size = refl; count = length-set (p .buckets .taken) b _ }
@@ -117,23 +118,24 @@ layout-push gs g end count st ct l =
     let sp : end-of g ≡ end + g .size * count = ap (λ z. g .start + g .size * z) ct ∙ ap (λ z. z + g .size * count) st in
     record {
       laid = λ k h. ⊎-elim
-        (λ old. omega (arith, ap end-of (push-old gs g k old), l .laid k old))
-        (λ new. let at : length gs ≡ k = omega arith in omega (arith, ap end-of (push-new gs g k at), sp))
-        (cases-lt k (length gs));
+          (λ old. omega (arith, ap end-of (push-old gs g k old), l .laid k old))
+          (λ new. let at : length gs ≡ k = omega arith in omega (arith, ap end-of (push-new gs g k at), sp))
+          (cases-lt k (length gs));
       rising = λ j k h lk. let jo : j < length gs = omega arith in ⊎-elim
-        (λ old. omega (arith, ap end-of (push-old gs g j jo), ap (λ (z : Segment). z .start) (push-old gs g k old), l .rising j k h old))
-        (λ new. let at : length gs ≡ k = omega arith in omega (arith, ap end-of (push-old gs g j jo), ap (λ (z : Segment). z .start) (push-new gs g k at), l .laid j jo, st))
-        (cases-lt k (length gs));
+          (λ old. omega (arith, ap end-of (push-old gs g j jo), ap (λ (z : Segment). z .start) (push-old gs g k old), l .rising j k h old))
+          (λ new. let at : length gs ≡ k = omega arith in omega (arith, ap end-of (push-old gs g j jo), ap (λ (z : Segment). z .start) (push-new gs g k at), l .laid j jo, st))
+          (cases-lt k (length gs));
       even = λ k h. ⊎-elim
-        (λ old. ap (λ (z : Segment). length (z .taken)) (push-old gs g k old) ∙ l .even k old)
-        (λ new. let at : length gs ≡ k = omega arith in ap (λ (z : Segment). length (z .taken)) (push-new gs g k at) ∙ ct)
-        (cases-lt k (length gs)) }
+          (λ old. ap (λ (z : Segment). length (z .taken)) (push-old gs g k old) ∙ l .even k old)
+          (λ new. let at : length gs ≡ k = omega arith in ap (λ (z : Segment). length (z .taken)) (push-new gs g k at) ∙ ct)
+          (cases-lt k (length gs));
+    }
 
 -- a layout of one segment
 pub layout-one : (g : Segment) (count : ℕ) → g .start ≡ 0 → length (g .taken) ≡ count → Layout (g ∷ []) (g .size * count) count
 layout-one g count st ct =
     subst (λ e. Layout (g ∷ []) e count) (zero-add (g .size * count))
-      (layout-push [] g 0 count st ct (record { laid = λ k h. absurd (omega arith); rising = λ j k h lk. absurd (omega arith); even = λ k h. absurd (omega arith) }))
+    (layout-push [] g 0 count st ct (record { laid = λ k h. absurd (omega arith); rising = λ j k h lk. absurd (omega arith); even = λ k h. absurd (omega arith) }))
 
 -- SEGMENTS TO BE
 
@@ -143,15 +145,16 @@ spares-push ps qs x count e c s =
     let n : length qs ≡ length ps + 1 = ap length e ∙ length-push ps x in
     let k = length-map ps spare-count in
     λ i h. ap (λ z. getD z i 0) m
-      ∙ ⊎-elim
-          (λ old. getD-append-left (map spare-count ps) (spare-count x ∷ []) 0 i (omega arith) ∙ s i old)
-          (λ new. let at : length (map spare-count ps) ≡ i = omega arith in getD-push (map spare-count ps) (spare-count x) 0 i at ∙ c)
-          (cases-lt i (length ps))
+    ∙ ⊎-elim
+    (λ old. getD-append-left (map spare-count ps) (spare-count x ∷ []) 0 i (omega arith) ∙ s i old)
+    (λ new. let at : length (map spare-count ps) ≡ i = omega arith in getD-push (map spare-count ps) (spare-count x) 0 i at ∙ c)
+    (cases-lt i (length ps))
 
 pub spares-pop : (ps rest : List SpareSegment) (x : SpareSegment) (count : ℕ) → ps ≡ rest ++ x ∷ [] → Spares ps count → Spares rest count × (spare-count x ≡ count)
 spares-pop ps rest x count e s =
     let m : map spare-count ps ≡ map spare-count rest ++ spare-count x ∷ [] = ap (map spare-count) e ∙ map-push spare-count rest x in
     let n : length ps ≡ length rest + 1 = ap length e ∙ length-push rest x in
-    let k = length-map rest spare-count in
-    ( λ i h. sym (getD-append-left (map spare-count rest) (spare-count x ∷ []) 0 i (omega arith)) ∙ (sym (ap (λ z. getD z i 0) m) ∙ s i (omega arith))
-    , sym (getD-push (map spare-count rest) (spare-count x) 0 (length rest) k) ∙ (sym (ap (λ z. getD z (length rest) 0) m) ∙ s (length rest) (omega arith)))
+    let k = length-map rest spare-count in (
+      λ i h. sym (getD-append-left (map spare-count rest) (spare-count x ∷ []) 0 i (omega arith)) ∙ (sym (ap (λ z. getD z i 0) m) ∙ s i (omega arith)),
+      sym (getD-push (map spare-count rest) (spare-count x) 0 (length rest) k) ∙ (sym (ap (λ z. getD z (length rest) 0) m) ∙ s (length rest) (omega arith)),
+    )

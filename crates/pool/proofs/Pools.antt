@@ -1,24 +1,19 @@
 -- What taking and giving back do to the buckets of a segment.
 use Prim.Native.Nat.{ℕ, zero, suc, _+_, _-_, _≤_, _<_}
-use mathlib.Core.Path.{_≡_, refl, sym, _∙_, ap, subst}
+use mathlib.Core.Path.{_≡_, refl, sym, _∙_, ap}
 use mathlib.Core.List.{List, [], _∷_, _++_}
 use mathlib.Core.Bool.{Bool, true, false, cond}
-use mathlib.Core.Logic.{_⊎_, inl, inr, _≢_, ⊎-elim}
+use mathlib.Core.Logic.{_⊎_, _≢_, ⊎-elim}
 use native.Mathlib.Omega.{arith}
-use borrow.Author.Needs.{needs}
-use lib.ListN.{length, getD, set, take, replicate}
-use Rattle.std.proofs.shelf.Lists.{length-push, getD-push, getD-append-left, getD-set-same, getD-set-other, getD-past, length-set, places, getD-default}
-use Rattle.std.proofs.shelf.Sums.{sumBy-set, sumBy-cons, getD-le-sumBy, countBy-le-length}
-use Rattle.std.proofs.shelf.Tests.{cases-eq, cases-lt, true≢false, false≢true}
-use Rattle.std.proofs.shelf.Lists.{take-at, append-nil, length-replicate, getD-replicate}
-use Rattle.std.proofs.shelf.Tests.{cond-below, cond-false, le-ltb}
-use Rattle.std.specs.Of.Vec.{vec-items, vec-len, vec-cap}
-use Rattle.std.specs.declared.option.Option.the-variants.{Some, None}
-use Rattle.rules.specs.Pools.{next, took}
+use lib.ListN.{length, getD, set, replicate}
+use Rattle.std.proofs.shelf.Lists.{length-push, getD-set-same, getD-past, length-set, places}
+use Rattle.std.proofs.shelf.Sums.{sumBy-set, sumBy-cons}
+use Rattle.std.proofs.shelf.Tests.{cases-eq, cases-lt, false≢true}
+use Rattle.std.proofs.shelf.Lists.{append-nil, length-replicate, getD-replicate}
+use Rattle.std.specs.Of.Vec.{vec-items, vec-cap}
 use Rattle.pool.specs.declared.pool_allocator.PoolAllocator.{PoolAllocator}
 use Rattle.rules.specs.Laws.{trues}
-use Rattle.pool.specs.Model.{pool-of}
-use Rattle.pool.specs.Order.{Old, Idle, Apart, Unused, Counted, Listed}
+use Rattle.pool.specs.Order.{Idle, Apart, Unused, Counted, Listed}
 
 -- the number of taken buckets after one is taken or freed
 pub trues-set-true : (bs : List Bool) (i : ℕ) → i < length bs → getD bs i false ≡ false → trues (set bs i true) ≡ trues bs + 1
@@ -30,13 +25,6 @@ pub trues-set-false : (bs : List Bool) (i : ℕ) → i < length bs → getD bs i
 trues-set-false bs i h e =
     let s = sumBy-set (λ b. cond b 1 0) bs i false false h in
     let z : _≡_ {A = ℕ} (cond (getD bs i false) 1 0) (cond true 1 0) = ap (λ b. cond b 1 0) e in omega arith
-
--- where as many are taken as there are, each is
-pub all-taken : (bs : List Bool) → length bs ≤ trues bs → (i : ℕ) → getD bs i true ≡ true
-all-taken [] h i = refl
-all-taken (true ∷ bs) h zero = refl
-all-taken (true ∷ bs) h (suc i) = all-taken bs (omega (arith, sumBy-cons (λ b. cond b 1 0) true bs)) i
-all-taken (false ∷ bs) h i = absurd (omega (arith, sumBy-cons (λ b. cond b 1 0) false bs, countBy-le-length (λ b. b) bs))
 
 -- a taken bucket is there
 pub taken-within : (bs : List Bool) (i : ℕ) → getD bs i false ≡ true → i < length bs
@@ -57,10 +45,11 @@ pub listed-give : (taken : List Bool) (freed : List ℕ) (fresh b : ℕ) → Lis
     → Listed (set taken b false) (freed ++ b ∷ []) fresh
 listed-give taken freed fresh b (old, idle, unused) e =
     let h = taken-within taken b e in
-    let l = taken-below taken fresh b unused e in
-    ( λ k lt. grind (arith, old, places, length-push)
-    , λ k lt. grind (arith, idle, places, getD-set-same, cases-eq (getD (freed ++ b ∷ []) k 0) b)
-    , λ i le. grind (arith, unused, places))
+    let l = taken-below taken fresh b unused e in (
+      λ k lt. grind (arith, old, places, length-push),
+      λ k lt. grind (arith, idle, places, getD-set-same, cases-eq (getD (freed ++ b ∷ []) k 0) b),
+      λ i le. grind (arith, unused, places),
+    )
 
 pub apart-give : (taken : List Bool) (freed : List ℕ) (b : ℕ) → Idle taken freed → Apart freed → getD taken b false ≡ true
     → Apart (freed ++ b ∷ [])
@@ -78,10 +67,11 @@ counted-again taken freed fresh room b (few, many, roomy) (old, idle, unused) =
 pub listed-again : (taken : List Bool) (freed : List ℕ) (fresh b : ℕ) → Listed taken (freed ++ b ∷ []) fresh → Apart (freed ++ b ∷ [])
     → Listed (set taken b true) freed fresh
 listed-again taken freed fresh b (old, idle, unused) apart =
-    let t : b < fresh = grind (arith, old (length freed), places, length-push) in
-    ( λ k lt. grind (arith, old k, places, length-push)
-    , λ k lt. grind (arith, idle k, apart k (length freed), places, length-push)
-    , λ i le. grind (arith, unused i, places))
+    let t : b < fresh = grind (arith, old (length freed), places, length-push) in (
+      λ k lt. grind (arith, old k, places, length-push),
+      λ k lt. grind (arith, idle k, apart k (length freed), places, length-push),
+      λ i le. grind (arith, unused i, places),
+    )
 
 pub apart-again : (freed : List ℕ) (b : ℕ) → Apart (freed ++ b ∷ []) → Apart freed
 apart-again freed b apart j k lt kn same = grind (arith, apart j k, places, length-push)
@@ -94,10 +84,11 @@ counted-fresh taken freed fresh room (few, many, roomy) unused h =
     (simp length-set (omega arith), omega arith, simp length-set roomy)
 
 pub listed-fresh : (taken : List Bool) (freed : List ℕ) (fresh : ℕ) → Listed taken freed fresh → Listed (set taken fresh true) freed (fresh + 1)
-listed-fresh taken freed fresh (old, idle, unused) =
-    ( λ k lt. omega (arith, old k lt)
-    , λ k lt. grind (arith, idle k, old k, places)
-    , λ i le. grind (arith, unused i, places))
+listed-fresh taken freed fresh (old, idle, unused) = (
+  λ k lt. omega (arith, old k lt),
+  λ k lt. grind (arith, idle k, old k, places),
+  λ i le. grind (arith, unused i, places),
+)
 
 -- the three facts of a segment's buckets, as a ghost need asks for them
 abbrev pub All-kept : List Bool → List ℕ → ℕ → ℕ → Type 0
@@ -114,18 +105,12 @@ pub kept-give : (p : PoolAllocator) (b : ℕ) {freed′ : List ℕ} {room′ : �
 kept-give p b e r t =
     rw (e, r) (counted-give _ _ _ _ b (p .counted) t, (listed-give _ _ _ b (p .listed) t, (apart-give _ _ b (p .listed .1) (p .apart) t, tt)))
 
--- the last freed bucket
-pub last-freed : (p : PoolAllocator) (b : ℕ) (freed′ : List ℕ) → vec-items (p .freed) ≡ freed′ ++ b ∷ []
-    → (b < length (vec-items (p .taken))) × (getD (vec-items (p .taken)) b true ≡ false) × (0 < length (vec-items (p .freed)))
-    × (freed′ ≡ take (length (vec-items (p .freed)) - 1) (vec-items (p .freed))) × (Some b ≡ next (pool-of p))
+-- the last freed bucket is there
+pub last-freed : (p : PoolAllocator) (b : ℕ) (freed′ : List ℕ) → vec-items (p .freed) ≡ freed′ ++ b ∷ [] → b < length (vec-items (p .taken))
 last-freed p b freed′ e =
     let n = ap length e ∙ length-push freed′ b in
     let t : b < p .fresh = grind (arith, p .listed .0 (length freed′), places, length-push) in
-    let few = p .counted .0 in
-    let i : getD (vec-items (p .taken)) b false ≡ false = grind (arith, p .listed .1 (length freed′), places, length-push) in
-    let some : 0 < length (vec-items (p .freed)) = omega arith in
-    let g : b ≡ getD (vec-items (p .freed)) (length (vec-items (p .freed)) - 1) 0 = grind (arith, places) in
-    (omega arith, getD-default _ b true false (omega arith) ∙ i, some, grind (arith, places, take-at freed′ (b ∷ [])), ap Some g ∙ cond-below 0 _ _ _ some)
+    omega (arith, p .counted .0)
 
 again-lists : (taken : List Bool) (freed : List ℕ) (fresh room b : ℕ) (freed′ : List ℕ) → freed ≡ freed′ ++ b ∷ []
     → Counted taken freed fresh room → Listed taken freed fresh → Apart freed → All-kept (set taken b true) freed′ fresh room
@@ -146,22 +131,6 @@ kept-fresh p freed′ e r h =
     let e′ : freed′ ≡ vec-items (p .freed) = sym (append-nil freed′) ∙ sym e in
     rw (e′, r) (counted-fresh _ _ _ _ (p .counted) (p .listed .2) h, (listed-fresh _ _ _ (p .listed), (p .apart, tt)))
 
-pub next-fresh : (p : PoolAllocator) → length (vec-items (p .freed)) ≡ 0 → p .fresh < length (vec-items (p .taken))
-    → (Some (p .fresh) ≡ next (pool-of p)) × (getD (vec-items (p .taken)) (p .fresh) true ≡ false)
-next-fresh p z h =
-    let n : length (vec-items (p .freed)) ≤ 0 = omega arith in
-    let f : p .fresh ≤ p .fresh = omega arith in
-    (cond-below _ _ _ _ h ∙ sym (cond-false _ _ _ (le-ltb 0 _ n)), getD-default _ (p .fresh) true false h ∙ p .listed .2 (p .fresh) f)
-
--- where there is none either: all are taken
-pub next-none : (p : PoolAllocator) → length (vec-items (p .freed)) ≡ 0 → length (vec-items (p .taken)) ≤ p .fresh
-    → (None ≡ next (pool-of p)) × ((b : ℕ) → getD (vec-items (p .taken)) b true ≡ true)
-next-none p z h =
-    let m = p .counted .1 in
-    let n : length (vec-items (p .freed)) ≤ 0 = omega arith in
-    ( sym (cond-false _ _ _ (le-ltb _ _ h)) ∙ sym (cond-false _ _ _ (le-ltb 0 _ n))
-    , all-taken _ (omega arith))
-
 -- before the first bucket is taken
 trues-none : (n : ℕ) → trues (replicate n false) ≡ 0
 trues-none zero = refl
@@ -170,9 +139,10 @@ trues-none (suc n) = sumBy-cons (λ b. cond b 1 0) false (replicate n false) ∙
 new-lists : (n room : ℕ) → n ≤ room → All-kept (replicate n false) [] 0 room
 new-lists n room h =
     let l = length-replicate n false in
-    let z = trues-none n in
-    ( (omega arith, omega arith, omega arith)
-    , ((λ k lt. absurd (omega arith), λ k lt. absurd (omega arith), λ i le. grind (arith, getD-replicate, getD-past, cases-lt i n)), ((λ j k lt kn same. absurd (omega arith)), tt)))
+    let z = trues-none n in (
+      (omega arith, omega arith, omega arith),
+      ((λ k lt. absurd (omega arith), λ k lt. absurd (omega arith), λ i le. grind (arith, getD-replicate, getD-past, cases-lt i n)), ((λ j k lt kn same. absurd (omega arith)), tt)),
+    )
 
 pub kept-new : (taken : List Bool) (freed : List ℕ) (room n : ℕ) → taken ≡ replicate n false → freed ≡ [] → n ≤ room → All-kept taken freed 0 room
 kept-new taken freed room n e f h = rw (e, f) (new-lists n room h)

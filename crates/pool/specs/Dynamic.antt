@@ -1,14 +1,14 @@
 -- What a dynamic memory stands for.
 use Prim.Native.Nat.{ℕ, _*_, _≤_}
 use mathlib.Core.Path.{_≡_}
-use mathlib.Core.List.{List, [], _∷_}
+use mathlib.Core.List.{[], _∷_}
 use Rattle.std.specs.Of.Vec.{vec-items}
 use Rattle.std.specs.declared.result.Result.{Result}
 use Rattle.std.specs.declared.result.Result.the-variants.{Ok, Err}
 use Rattle.elementary.specs.declared.error.SetUpError.{SetUpError}
 use Rattle.elementary.specs.declared.error.SetUpError.the-variants.{OutOfRange, NoMemory}
 use Rattle.rules.specs.Memory.{Fair}
-use Rattle.rules.specs.Pools.{Pool, Dynamic, new-pool}
+use Rattle.rules.specs.Pools.{Dynamic, new-pool}
 use Rattle.pool.specs.Model.{pools-in}
 use Rattle.pool.specs.declared.dynamic_memory.DynamicMemory.{DynamicMemory}
 

@@ -10,7 +10,8 @@ abbrev pub pool-of : PoolAllocator → Pool
 pool-of p = record {
   buckets = record { start = p .start; size = p .«bucket_size»; taken = vec-items (p .taken) };
   freed = vec-items (p .freed);
-  fresh = p .fresh }
+  fresh = p .fresh;
+}
 
 abbrev pub pools-in : List PoolAllocator → List Pool
 pools-in ps = map pool-of ps

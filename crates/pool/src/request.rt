@@ -12,7 +12,11 @@ pub(crate) fn is_aligned(align: usize) -> bool
 }
 
 // Refuses what no memory grants: a size of 0 or above the largest, then an alignment that is none.
-pub(crate) fn check_request(largest: usize, size: usize, align: usize) -> Result<(), AllocationError>
+pub(crate) fn check_request(
+    largest: usize,
+    size: usize,
+    align: usize,
+) -> Result<(), AllocationError>
     ensures { λ r. ⌜ errPart r ≡ request-fault largest size align ⌝ }
 {
     if size == 0 || size > largest {

@@ -1,13 +1,12 @@
 -- What an offset names: the segment and the bucket of a chunk, and the bytes that it has.
 use Prim.Native.Nat.{ℕ, _+_, _*_, _/_, _%_, _^_, _≤_, _<_}
-use mathlib.Core.Path.{_≡_, refl, sym, _∙_, ap, subst}
-use mathlib.Core.List.{List, [], _∷_}
-use mathlib.Core.Bool.{Bool, true, false, not, cond, _&&_}
+use mathlib.Core.Path.{_≡_, refl, sym, _∙_, ap}
+use mathlib.Core.List.{List}
+use mathlib.Core.Bool.{Bool, true, false, not, cond}
 use mathlib.Core.Logic.{_⊎_, inl, inr, ⊎-elim}
 use native.Mathlib.Omega.{arith}
 use native.Mathlib.Nat.{add-mul, mul-comm, mul-le-mul-right, mul-mod-left, mul-div-cancel}
 use lib.ListN.{length, getD, set}
-use lib.Dec.{eqb, ltb}
 use Rattle.std.proofs.shelf.Lists.{getD-past}
 use Rattle.std.proofs.shelf.Bits.{div-add-mod', div-mul-add, mod-mul-add}
 use Rattle.std.proofs.shelf.Tests.{and-parts, and-from, eqb-true, eq-eqb, ltb-true, lt-ltb, cases-lt, cases-order, cases-bool, cond-false}
@@ -31,8 +30,8 @@ chunk-bucket gs o e =
 pub chunk-there : (gs : List Segment) (o : ℕ) → is-chunk gs o ≡ true → segment o < length gs
 chunk-there gs o e =
     ⊎-elim (λ h. h)
-      (λ past. absurd (omega (arith, chunk-bucket gs o e .1, ap (λ (g : Segment). length (g .taken)) (getD-past gs (segment o) no-segment past))))
-      (cases-lt (segment o) (length gs))
+    (λ past. absurd (omega (arith, chunk-bucket gs o e .1, ap (λ (g : Segment). length (g .taken)) (getD-past gs (segment o) no-segment past))))
+    (cases-lt (segment o) (length gs))
 
 -- an offset is its two parts
 pub unpacked : (o : ℕ) → packed (distance o) (segment o) ≡ o
@@ -43,7 +42,7 @@ pub same-bucket : (gs : List Segment) (o p : ℕ) → is-chunk gs o ≡ true →
 same-bucket gs o p co cp s b =
     let h = ap (λ k. segment-at gs k .size) s in
     let d : distance o ≡ distance p =
-        chunk-bucket gs o co .0 ∙ (ap (λ x. x * home gs o .size) b ∙ (ap (λ z. bucket gs p * z) h ∙ sym (chunk-bucket gs p cp .0))) in
+    chunk-bucket gs o co .0 ∙ (ap (λ x. x * home gs o .size) b ∙ (ap (λ z. bucket gs p * z) h ∙ sym (chunk-bucket gs p cp .0))) in
     sym (unpacked o) ∙ (ap (λ x. packed x (segment o)) d ∙ (ap (packed (distance p)) s ∙ unpacked p))
 
 -- every bucket has an offset that names it
@@ -55,9 +54,9 @@ named gs s b h pos lt =
     let ed : distance (offset-of gs s b) ≡ b * z = div-mul-add (b * z) 256 s h in
     let eh : home gs (offset-of gs s b) ≡ segment-at gs s = ap (segment-at gs) es in
     let eb : bucket gs (offset-of gs s b) ≡ b =
-        ap (λ (g : Segment). distance (offset-of gs s b) / g .size) eh ∙ (ap (λ d. d / z) ed ∙ mul-div-cancel b pos) in
+    ap (λ (g : Segment). distance (offset-of gs s b) / g .size) eh ∙ (ap (λ d. d / z) ed ∙ mul-div-cancel b pos) in
     let em : distance (offset-of gs s b) % home gs (offset-of gs s b) .size ≡ 0 =
-        ap (λ (g : Segment). distance (offset-of gs s b) % g .size) eh ∙ (ap (λ d. d % z) ed ∙ mul-mod-left b z) in
+    ap (λ (g : Segment). distance (offset-of gs s b) % g .size) eh ∙ (ap (λ d. d % z) ed ∙ mul-mod-left b z) in
     let en = ap (λ (g : Segment). length (g .taken)) eh in
     (es, eb, and-from _ _ (eq-eqb _ _ em) (lt-ltb _ _ (omega arith)))
 
@@ -96,22 +95,22 @@ no-byte-shared limit m o p sound co cp ne =
     let wo = chunk-within m o co in
     let wp = chunk-within m p cp in
     ⊎-elim
-      (λ same. ⊎-elim
-        (λ b. absurd (ne (same-bucket gs o p co cp same b)))
-        (⊎-elim (λ lt. inl (before m o p co cp same lt)) (λ gt. inr (before m p o cp co (sym same) gt)))
-        (cases-order (bucket gs o) (bucket gs p)))
-      (⊎-elim
-        (λ lt. ⊎-elim (λ a. inl (omega arith)) (λ a. inr (omega arith)) (sound .apart (segment o) (segment p) lt (chunk-there gs p cp)))
-        (λ gt. ⊎-elim (λ a. inr (omega arith)) (λ a. inl (omega arith)) (sound .apart (segment p) (segment o) gt (chunk-there gs o co))))
-      (cases-order (segment o) (segment p))
+    (λ same. ⊎-elim
+    (λ b. absurd (ne (same-bucket gs o p co cp same b)))
+    (⊎-elim (λ lt. inl (before m o p co cp same lt)) (λ gt. inr (before m p o cp co (sym same) gt)))
+    (cases-order (bucket gs o) (bucket gs p)))
+    (⊎-elim
+    (λ lt. ⊎-elim (λ a. inl (omega arith)) (λ a. inr (omega arith)) (sound .apart (segment o) (segment p) lt (chunk-there gs p cp)))
+    (λ gt. ⊎-elim (λ a. inr (omega arith)) (λ a. inl (omega arith)) (sound .apart (segment p) (segment o) gt (chunk-there gs o co))))
+    (cases-order (segment o) (segment p))
 
 -- a segment whose buckets have no size is not there, so that no offset names a bucket of it
 pub sizeless : (limit : ℕ) (m : Mem) (o : ℕ) → Sound limit m → home (m .segments) o .size ≡ 0 → bucket-at (m .segments) o ≡ None
 sizeless limit m o sound z =
     ⊎-elim
-      (λ c. absurd (omega (arith, sound .shaped (segment o) (chunk-there (m .segments) o c) .fair .1)))
-      (λ c. cond-false _ _ _ c)
-      (cases-bool (is-chunk (m .segments) o))
+    (λ c. absurd (omega (arith, sound .shaped (segment o) (chunk-there (m .segments) o c) .fair .1)))
+    (λ c. cond-false _ _ _ c)
+    (cases-bool (is-chunk (m .segments) o))
 
 -- a segment's start is a small number
 pub start-low : (limit : ℕ) (m : Mem) (s x : ℕ) → Sound limit m → Some x ≡ start-of (m .segments) s → x < 2 ^ 63
@@ -123,20 +122,20 @@ start-low limit m s x sound e =
 pub startless : (gs : List Segment) (o : ℕ) → None ≡ start-of gs (segment o) → is-chunk gs o ≡ false
 startless gs o e =
     ⊎-elim
-      (λ c. let h = chunk-there gs o c in absurd (grind (arith, tells)))
-      (λ c. c)
-      (cases-bool (is-chunk gs o))
+    (λ c. let h = chunk-there gs o c in absurd (grind (arith, tells)))
+    (λ c. c)
+    (cases-bool (is-chunk gs o))
 
 -- what a search for a chunk's bytes found lies within the capacity
 pub located : (limit : ℕ) (m : Mem) (o start size : ℕ) → Sound limit m
     → _≡_ {A = Option (ℕ × ℕ)} (Some (start, size)) (cond (is-chunk (m .segments) o) (Some (place m o, room m o)) None) → start + size ≤ m .capacity
 located limit m o start size sound e = go (is-chunk (m .segments) o) refl e
   where
-  go : (b : Bool) → is-chunk (m .segments) o ≡ b → _≡_ {A = Option (ℕ × ℕ)} (Some (start, size)) (cond b (Some (place m o, room m o)) None) → start + size ≤ m .capacity
-  go true c f =
-      let both : _≡_ {A = ℕ × ℕ} (start, size) (place m o, room m o) = cc in
-      omega (arith, within-capacity limit m o sound c, ap (λ (x : ℕ × ℕ). x .0) both, ap (λ (x : ℕ × ℕ). x .1) both)
-  go false c f = let z : _≡_ {A = ℕ} 0 1 = cc in absurd (omega arith)
+    go : (b : Bool) → is-chunk (m .segments) o ≡ b → _≡_ {A = Option (ℕ × ℕ)} (Some (start, size)) (cond b (Some (place m o, room m o)) None) → start + size ≤ m .capacity
+    go true c f =
+        let both : _≡_ {A = ℕ × ℕ} (start, size) (place m o, room m o) = cc in
+        omega (arith, within-capacity limit m o sound c, ap (λ (x : ℕ × ℕ). x .0) both, ap (λ (x : ℕ × ℕ). x .1) both)
+    go false c f = let z : _≡_ {A = ℕ} 0 1 = cc in absurd (omega arith)
 
 -- to take the free bucket b of segment s
 pub takes-bucket : (m n : Mem) (asked s b : ℕ) → s < 256 → 0 < segment-at (m .segments) s .size → b < length (segment-at (m .segments) s .taken)
@@ -151,6 +150,7 @@ takes-bucket m n asked s b h pos lt free large after =
       free = and-from _ _ (e .2) (ap (λ (g : Segment). not (getD (g .taken) (bucket gs o) false)) eh ∙ (ap (λ k. not (getD (segment-at gs s .taken) k false)) (e .1) ∙ ap not free));
       large = omega (arith, ap (λ (g : Segment). g .size) eh);
       after = after ∙ ap (with-segments m)
-        (sym (ap (λ k. set gs k (remarked (home gs o) (bucket gs o) true)) (e .0)
-        ∙ (ap (λ (g : Segment). set gs s (remarked g (bucket gs o) true)) eh
-        ∙ ap (λ k. set gs s (remarked (segment-at gs s) k true)) (e .1)))) }
+          (sym (ap (λ k. set gs k (remarked (home gs o) (bucket gs o) true)) (e .0)
+          ∙ (ap (λ (g : Segment). set gs s (remarked g (bucket gs o) true)) eh
+          ∙ ap (λ k. set gs s (remarked (segment-at gs s) k true)) (e .1))));
+    }

@@ -1,10 +1,9 @@
 -- What a mark at one bucket changes, and what it leaves.
-use Prim.Native.Nat.{ℕ, _+_, _*_, _/_, _%_, _≤_, _<_}
-use mathlib.Core.Path.{_≡_, refl, sym, _∙_, ap, subst}
-use mathlib.Core.List.{List, [], _∷_}
-use mathlib.Core.Bool.{Bool, true, false, cond, _&&_}
-use mathlib.Core.Logic.{_⊎_, inl, inr, ⊎-elim}
-use native.Mathlib.Omega.{arith}
+use Prim.Native.Nat.{ℕ, _/_, _%_, _<_}
+use mathlib.Core.Path.{_≡_, refl, sym, _∙_, ap}
+use mathlib.Core.List.{List}
+use mathlib.Core.Bool.{Bool, true, false, _&&_}
+use mathlib.Core.Logic.{_⊎_, ⊎-elim}
 use lib.ListN.{length, getD, set}
 use lib.Dec.{eqb, ltb}
 use Rattle.std.proofs.shelf.Lists.{getD-set-same, getD-set-other, set-past, length-set}
@@ -18,18 +17,15 @@ pub mark-keeps : {R : Type 0} (f : Segment → R) → ((g : Segment) (b : ℕ) (
     → (gs : List Segment) (o : ℕ) (t : Bool) (k : ℕ) → f (segment-at (marked gs o t) k) ≡ f (segment-at gs k)
 mark-keeps f e gs o t k =
     ⊎-elim
-      (λ same. ⊎-elim
-        (λ lt. rw same (ap f (getD-set-same gs (segment o) _ no-segment lt) ∙ e (home gs o) (bucket gs o) t))
-        (λ past. ap (λ hs. f (segment-at hs k)) (set-past gs (segment o) _ past))
-        (cases-lt (segment o) (length gs)))
-      (λ other. ap f (getD-set-other gs (segment o) k _ no-segment other))
-      (cases-eq k (segment o))
+    (λ same. ⊎-elim
+    (λ lt. rw same (ap f (getD-set-same gs (segment o) _ no-segment lt) ∙ e (home gs o) (bucket gs o) t))
+    (λ past. ap (λ hs. f (segment-at hs k)) (set-past gs (segment o) _ past))
+    (cases-lt (segment o) (length gs)))
+    (λ other. ap f (getD-set-other gs (segment o) k _ no-segment other))
+    (cases-eq k (segment o))
 
 pub mark-size : (gs : List Segment) (o : ℕ) (t : Bool) (k : ℕ) → segment-at (marked gs o t) k .size ≡ segment-at gs k .size
 mark-size = mark-keeps (λ g. g .size) (λ g b t. refl)
-
-pub mark-start : (gs : List Segment) (o : ℕ) (t : Bool) (k : ℕ) → segment-at (marked gs o t) k .start ≡ segment-at gs k .start
-mark-start = mark-keeps (λ g. g .start) (λ g b t. refl)
 
 pub mark-count : (gs : List Segment) (o : ℕ) (t : Bool) (k : ℕ) → length (segment-at (marked gs o t) k .taken) ≡ length (segment-at gs k .taken)
 mark-count = mark-keeps (λ g. length (g .taken)) (λ g b t. length-set (g .taken) b t)
@@ -59,19 +55,19 @@ other-marks : (gs : List Segment) (o : ℕ) (t : Bool) (p : ℕ) → is-chunk gs
     → getD (home (marked gs o t) p .taken) (bucket gs p) false ≡ getD (home gs p .taken) (bucket gs p) false
 other-marks gs o t p co cp ne =
     ⊎-elim
-      (λ same. let apart : bucket gs p ≡ bucket gs o → ⊥ = λ b. ne (sym (same-bucket gs p o cp co same b)) in
-          ap (λ k. getD (segment-at (marked gs o t) k .taken) (bucket gs p) false) same
-          ∙ (ap (λ ts. getD ts (bucket gs p) false) (marks-same gs o t (chunk-there gs o co))
-          ∙ (getD-set-other (home gs o .taken) (bucket gs o) (bucket gs p) t false apart
-          ∙ ap (λ k. getD (segment-at gs k .taken) (bucket gs p) false) (sym same))))
-      (λ other. ap (λ (g : Segment). getD (g .taken) (bucket gs p) false) (getD-set-other gs (segment o) (segment p) _ no-segment other))
-      (cases-eq (segment p) (segment o))
+    (λ same. let apart : bucket gs p ≡ bucket gs o → ⊥ = λ b. ne (sym (same-bucket gs p o cp co same b)) in
+    ap (λ k. getD (segment-at (marked gs o t) k .taken) (bucket gs p) false) same
+    ∙ (ap (λ ts. getD ts (bucket gs p) false) (marks-same gs o t (chunk-there gs o co))
+    ∙ (getD-set-other (home gs o .taken) (bucket gs o) (bucket gs p) t false apart
+    ∙ ap (λ k. getD (segment-at gs k .taken) (bucket gs p) false) (sym same))))
+    (λ other. ap (λ (g : Segment). getD (g .taken) (bucket gs p) false) (getD-set-other gs (segment o) (segment p) _ no-segment other))
+    (cases-eq (segment p) (segment o))
 
 pub mark-other : (gs : List Segment) (o : ℕ) (t : Bool) (p : ℕ) → is-chunk gs o ≡ true → (o ≡ p → ⊥) → taken-at (marked gs o t) p ≡ taken-at gs p
 mark-other gs o t p co ne =
     ap (λ b. b && getD (home (marked gs o t) p .taken) (bucket (marked gs o t) p) false) (mark-chunk gs o t p)
     ∙ (ap (λ b. is-chunk gs p && getD (home (marked gs o t) p .taken) b false) (mark-bucket gs o t p)
     ∙ ⊎-elim
-        (λ cp. ap (λ b. is-chunk gs p && b) (other-marks gs o t p co cp ne))
-        (λ no. and-left _ _ no ∙ sym (and-left _ _ no))
-        (cases-bool (is-chunk gs p)))
+    (λ cp. ap (λ b. is-chunk gs p && b) (other-marks gs o t p co cp ne))
+    (λ no. and-left _ _ no ∙ sym (and-left _ _ no))
+    (cases-bool (is-chunk gs p)))

@@ -1,24 +1,23 @@
 -- Counting buckets.
-use Prim.Native.Nat.{ℕ, zero, suc, _+_, _≤_, _<_}
-use mathlib.Core.Path.{_≡_, refl, sym, _∙_, ap, subst}
+use Prim.Native.Nat.{ℕ, suc, _+_, _≤_, _<_}
+use mathlib.Core.Path.{_≡_, refl, sym, _∙_, ap}
 use mathlib.Core.List.{List, [], _∷_}
-use mathlib.Core.Bool.{Bool, true, false, not, cond, _&&_, _||_}
-use mathlib.Core.Logic.{_⊎_, inl, inr, ⊎-elim}
+use mathlib.Core.Bool.{Bool, true, false, cond, _&&_, _||_}
+use mathlib.Core.Logic.{_⊎_, ⊎-elim}
 use native.Mathlib.Omega.{arith}
 use lib.Dec.{eqb, ltb, leb}
 use lib.ListN.{length, getD, set}
-use Rattle.std.specs.shelf.Lists.{sum, sumBy}
+use Rattle.std.specs.shelf.Lists.{sum}
 use Rattle.std.proofs.shelf.Lists.{getD-past, length-set}
 use Rattle.std.proofs.shelf.Sums.{sumBy-cons, sumBy-set}
-use Rattle.std.proofs.shelf.Tests.{ltb-true, cases-lt, cases-bool, or-left, or-right, and-from, cases-eq, eq-eqb, ne-eqb, eqb-true, le-ltb, true≢false, false≢true, and-parts}
+use Rattle.std.proofs.shelf.Tests.{ltb-true, cases-lt, cases-bool, or-left, or-right, and-from, ne-eqb, true≢false, false≢true, and-parts}
 use Rattle.std.specs.declared.option.Option.the-variants.{Some, None}
 use Rattle.elementary.specs.Ids.{segment}
 use Rattle.elementary.specs.declared.error.AllocationError.the-variants.{SizeTooLarge, AlignmentFailure, OutOfMemory}
-use Rattle.rules.specs.Memory.{Mem, Segment, Sound, segment-at, no-segment, home, bucket, is-chunk, taken-at, offset-of, remarked, marked, some-false, some-free, aligned, else-fault, allocation-fault}
-use Rattle.rules.specs.Counts.{Counts, counts-of}
-use Rattle.rules.specs.Laws.{trues, as-large, as-large-taken, sum-of-counts, Taken-where-counted, Taken-at-most-counted, One-is-free, occurrences, Taken-at-most-held}
+use Rattle.rules.specs.Memory.{Segment, segment-at, no-segment, home, bucket, is-chunk, taken-at, offset-of, remarked, marked, some-false, some-free, aligned, else-fault}
+use Rattle.rules.specs.Laws.{trues, as-large, as-large-taken, Taken-at-most-counted, One-is-free, occurrences, Taken-at-most-held}
 use Rattle.rules.proofs.Chunks.{chunk-bucket, chunk-there, named}
-use Rattle.rules.proofs.Marks.{mark-size, mark-count, mark-chunk, mark-same, mark-other}
+use Rattle.rules.proofs.Marks.{mark-size, mark-same, mark-other}
 
 pub trues-cons : (t : Bool) (ts : List Bool) → trues (t ∷ ts) ≡ cond t 1 0 + trues ts
 trues-cons t ts = sumBy-cons (λ b. cond b 1 0) t ts
@@ -42,11 +41,22 @@ chosen false n = omega arith
 pub taken-at-most-counted : Taken-at-most-counted
 taken-at-most-counted [] cs asked h = omega arith
 taken-at-most-counted (g ∷ gs) [] asked h =
-    omega (arith, sumBy-cons (λ (z : Segment). cond (leb asked (z .size)) (trues (z .taken)) 0) g gs, chosen (leb asked (g .size)) (trues (g .taken))
-      , row-counted (g .taken) [] (h 0), taken-at-most-counted gs [] asked (λ s b. h (suc s) b))
+    omega (
+      arith,
+      sumBy-cons (λ (z : Segment). cond (leb asked (z .size)) (trues (z .taken)) 0) g gs,
+      chosen (leb asked (g .size)) (trues (g .taken)),
+      row-counted (g .taken) [] (h 0),
+      taken-at-most-counted gs [] asked (λ s b. h (suc s) b),
+    )
 taken-at-most-counted (g ∷ gs) (ns ∷ cs) asked h =
-    omega (arith, sumBy-cons (λ (z : Segment). cond (leb asked (z .size)) (trues (z .taken)) 0) g gs, chosen (leb asked (g .size)) (trues (g .taken))
-      , row-counted (g .taken) ns (h 0), taken-at-most-counted gs cs asked (λ s b. h (suc s) b), sumBy-cons sum ns cs)
+    omega (
+      arith,
+      sumBy-cons (λ (z : Segment). cond (leb asked (z .size)) (trues (z .taken)) 0) g gs,
+      chosen (leb asked (g .size)) (trues (g .taken)),
+      row-counted (g .taken) ns (h 0),
+      taken-at-most-counted gs cs asked (λ s b. h (suc s) b),
+      sumBy-cons sum ns cs,
+    )
 
 -- ONE IS FREE
 
@@ -66,8 +76,8 @@ pub free-among : (gs : List Segment) (asked : ℕ) → as-large-taken gs asked <
 free-among [] asked h = absurd (omega arith)
 free-among (g ∷ gs) asked h =
     free-of (leb asked (g .size)) (g .taken) (as-large-taken gs asked) (as-large gs asked) (some-free gs asked)
-      (omega (arith, sumBy-cons (λ (z : Segment). cond (leb asked (z .size)) (trues (z .taken)) 0) g gs, sumBy-cons (λ (z : Segment). cond (leb asked (z .size)) (length (z .taken)) 0) g gs))
-      (free-among gs asked)
+    (omega (arith, sumBy-cons (λ (z : Segment). cond (leb asked (z .size)) (trues (z .taken)) 0) g gs, sumBy-cons (λ (z : Segment). cond (leb asked (z .size)) (length (z .taken)) 0) g gs))
+    (free-among gs asked)
 
 not-short : (size align free more : Bool) → free ≡ true
     → else-fault (cond size (Some SizeTooLarge) (cond align None (Some AlignmentFailure))) (cond (free || more) None (Some OutOfMemory)) ≡ Some OutOfMemory → ⊥
@@ -107,7 +117,7 @@ taken-named gs s b (few, pos) e =
     let short : s < 256 = omega arith in
     let n = named gs s b short (pos s there) (marked-within (segment-at gs s .taken) b e) in
     and-from _ _ (n .2)
-      (ap (λ k. getD (segment-at gs k .taken) (bucket gs (offset-of gs s b)) false) (n .0) ∙ (ap (λ k. getD (segment-at gs s .taken) k false) (n .1) ∙ e))
+    (ap (λ k. getD (segment-at gs k .taken) (bucket gs (offset-of gs s b)) false) (n .0) ∙ (ap (λ k. getD (segment-at gs s .taken) k false) (n .1) ∙ e))
 
 -- to free a bucket takes at most one from the number of taken ones
 fewer-marks : (ts : List Bool) (b : ℕ) → b < length ts → trues ts ≤ trues (set ts b false) + 1
@@ -134,19 +144,19 @@ held-at-most : (holders : List ℕ) (gs : List Segment) (asked : ℕ) → Nameab
     → ((o : ℕ) → taken-at gs o ≡ true → 0 < occurrences holders o) → as-large-taken gs asked ≤ length holders
 held-at-most [] gs asked n h =
     taken-at-most-counted gs [] asked
-      (λ s b. ⊎-elim (λ t. absurd (omega (arith, h (offset-of gs s b) (taken-named gs s b n t)))) (λ f. f) (cases-bool (getD (segment-at gs s .taken) b false)))
+    (λ s b. ⊎-elim (λ t. absurd (omega (arith, h (offset-of gs s b) (taken-named gs s b n t)))) (λ f. f) (cases-bool (getD (segment-at gs s .taken) b false)))
 held-at-most (x ∷ xs) gs asked n h =
     ⊎-elim
-      (λ c.
-        let rest = held-at-most xs (marked gs x false) asked (nameable-mark gs x false n)
-              (λ o t. let ne : x ≡ o → ⊥ = λ e. false≢true (sym (mark-same gs x false c) ∙ (ap (taken-at (marked gs x false)) e ∙ t)) in
-                  later x o xs ne (h o (sym (mark-other gs x false o c ne) ∙ t))) in
-        omega (arith, rest, fewer gs x asked c))
-      (λ c.
-        let rest = held-at-most xs gs asked n
-              (λ o t. later x o xs (λ e. false≢true (sym c ∙ (ap (is-chunk gs) e ∙ and-parts _ _ t .0))) (h o t)) in
-        omega (arith, rest))
-      (cases-bool (is-chunk gs x))
+    (λ c.
+    let rest = held-at-most xs (marked gs x false) asked (nameable-mark gs x false n)
+    (λ o t. let ne : x ≡ o → ⊥ = λ e. false≢true (sym (mark-same gs x false c) ∙ (ap (taken-at (marked gs x false)) e ∙ t)) in
+    later x o xs ne (h o (sym (mark-other gs x false o c ne) ∙ t))) in
+    omega (arith, rest, fewer gs x asked c))
+    (λ c.
+    let rest = held-at-most xs gs asked n
+    (λ o t. later x o xs (λ e. false≢true (sym c ∙ (ap (is-chunk gs) e ∙ and-parts _ _ t .0))) (h o t)) in
+    omega (arith, rest))
+    (cases-bool (is-chunk gs x))
 
 pub taken-at-most-held : Taken-at-most-held
 taken-at-most-held limit m holders asked sound h =

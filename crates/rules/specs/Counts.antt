@@ -46,4 +46,5 @@ borrowed c o = record { mem = c .mem; counts = counted (c .mem .segments) (c .co
 abbrev pub released : Chunks → ℕ → Chunks
 released c o = record {
   mem = cond (eqb (count-at (c .mem .segments) (c .counts) o) 1) (freed (c .mem) o) (c .mem);
-  counts = uncounted (c .mem .segments) (c .counts) o }
+  counts = uncounted (c .mem .segments) (c .counts) o;
+}

@@ -94,8 +94,8 @@ pub record Sound (limit : ℕ) (m : Mem) : Type 0 where
   pub few : length (m .segments) ≤ limit
   pub shaped : (s : ℕ) → s < length (m .segments) → Shaped m (segment-at (m .segments) s)
   pub apart : (s t : ℕ) → s < t → t < length (m .segments)
-    → (end-of (segment-at (m .segments) s) ≤ segment-at (m .segments) t .start)
-    ⊎ (end-of (segment-at (m .segments) t) ≤ segment-at (m .segments) s .start)
+      → (end-of (segment-at (m .segments) s) ≤ segment-at (m .segments) t .start)
+      ⊎ (end-of (segment-at (m .segments) t) ≤ segment-at (m .segments) s .start)
 
 -- ALLOCATE
 

@@ -1,7 +1,7 @@
 -- The two memories of the exchange: which bucket each takes.
 use Prim.Native.Nat.{ℕ, _+_, _-_, _*_, _/_}
 use mathlib.Core.List.{List, [], _∷_, _++_, map}
-use mathlib.Core.Bool.{Bool, true, false, cond, _&&_, _||_}
+use mathlib.Core.Bool.{Bool, true, false, cond, _&&_}
 use lib.Dec.{ltb, leb}
 use lib.ListN.{length, getD, set, take}
 use Rattle.std.specs.Options.{isSome}
@@ -37,14 +37,15 @@ new-pool start size count = record { buckets = blank start size count; freed = [
 abbrev pub next : Pool → Option ℕ
 next p =
     cond (ltb 0 (length (p .freed))) (Some (getD (p .freed) (length (p .freed) - 1) 0))
-      (cond (ltb (p .fresh) (length (p .buckets .taken))) (Some (p .fresh)) None)
+    (cond (ltb (p .fresh) (length (p .buckets .taken))) (Some (p .fresh)) None)
 
 -- with that bucket, b, taken
 abbrev pub took-next : Pool → ℕ → Pool
 took-next p b = record {
   buckets = remarked (p .buckets) b true;
   freed = take (length (p .freed) - 1) (p .freed);
-  fresh = cond (ltb 0 (length (p .freed))) (p .fresh) (p .fresh + 1) }
+  fresh = cond (ltb 0 (length (p .freed))) (p .fresh) (p .fresh + 1);
+}
 
 abbrev pub took : Pool → Pool
 took p = by (next p) p (took-next p)
@@ -109,7 +110,8 @@ grown d asked = record {
   pools = d .pools ++ new-pool (d .end) (rounded asked) (d .count) ∷ [];
   count = d .count;
   end = d .end + rounded asked * d .count;
-  capacity = d .capacity }
+  capacity = d .capacity;
+}
 
 abbrev pub dynamic-mem : Dynamic → Mem
 dynamic-mem d = record { segments = segments-of (d .pools); largest = 65536; capacity = d .capacity; grows = can-grow d }
@@ -147,5 +149,5 @@ dynamic-after d asked align =
 abbrev pub dynamic-freed : Dynamic → ℕ → Dynamic
 dynamic-freed d o =
     cond (taken-at (segments-of (d .pools)) o)
-      (with-pools d (set (d .pools) (segment o) (gave (pool-at (d .pools) (segment o)) (bucket (segments-of (d .pools)) o))))
-      d
+    (with-pools d (set (d .pools) (segment o) (gave (pool-at (d .pools) (segment o)) (bucket (segments-of (d .pools)) o))))
+    d

@@ -2,7 +2,6 @@
 ghost use mathlib.Core.Path.{_≡_};
 ghost use Prim.Native.Nat.{_-_, _≤_};
 ghost use lib.ListN.{getD, set, replicate};
-ghost use Rattle.std.specs.Of.Vec.{vec-items};
 ghost use Rattle.std.specs.Vec.{made};
 ghost use Rattle.rules.specs.Memory.{home};
 ghost use Rattle.rules.specs.Counts.{counts-of, count-at, raised, counted, uncounted, released};
@@ -29,7 +28,11 @@ impl ReferenceCounts {
     fn get(&self, bucket: usize) -> u64
         ensures { λ r. ⌜ r ≡ getD (row-of (now (self .entry))) bucket 0 ⌝ }
     {
-        if bucket < self.counts.len() { self.counts[bucket] } else { 0 }
+        if bucket < self.counts.len() {
+            self.counts[bucket]
+        } else {
+            0
+        }
     }
 
     fn put(&mut self, bucket: usize, count: u64)

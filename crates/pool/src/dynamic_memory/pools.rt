@@ -53,7 +53,12 @@ fn three_spares(heap: Global, count: usize) -> Result<Vec<SpareSegment>, AllocEr
 
 impl DynamicMemory {
     // A memory with one segment of `count` buckets of `size` bytes, all free.
-    pub fn new(heap: Global, size: usize, count: usize, capacity: usize) -> Result<DynamicMemory, SetUpError>
+    pub fn new(
+        heap: Global,
+        size: usize,
+        count: usize,
+        capacity: usize,
+    ) -> Result<DynamicMemory, SetUpError>
         ensures { λ r. ⌜ MakesDynamic size count capacity r ⌝ }
     {
         if !is_fair(size, count) {
@@ -80,7 +85,11 @@ impl DynamicMemory {
         ensures buckets { λ r. ⌜ Cases r (segment-at (segments-of (dynamic-of (now (self .entry)) .pools)) segment ≡ no-segment) (λ x. segment-at (segments-of (dynamic-of (now (self .entry)) .pools)) segment ≡ pool-of (now x) .buckets) ⌝ }
         ensures there { λ r. ⌜ isSome r ≡ ltb segment (length (segments-of (dynamic-of (now (self .entry)) .pools))) ⌝ }
     {
-        if segment < self.live.len() { Some(&self.live[segment]) } else { None }
+        if segment < self.live.len() {
+            Some(&self.live[segment])
+        } else {
+            None
+        }
     }
 
     fn size_at(&self, segment: usize) -> usize
@@ -97,7 +106,11 @@ impl DynamicMemory {
         ensures value { λ r. ⌜ r ≡ next (pool-at (dynamic-of (now (self .entry)) .pools) segment) ⌝ }
         ensures after { λ _. ⌜ dynamic-of (now (self .exit)) ≡ taken-in (dynamic-of (now (self .entry))) segment ⌝ }
     {
-        if segment < self.live.len() { self.live[segment].take() } else { None }
+        if segment < self.live.len() {
+            self.live[segment].take()
+        } else {
+            None
+        }
     }
 
     pub(super) fn give_in(&mut self, segment: usize, bucket: usize)
@@ -162,12 +175,19 @@ impl DynamicMemory {
     {
         let size = self.size_at(segment);
         match self.take_in(segment) {
-            Some(bucket) => Ok(PointerOffset::from_offset_and_segment_id(bucket * size, segment as u8)),
+            Some(bucket) => Ok(PointerOffset::from_offset_and_segment_id(
+                bucket * size,
+                segment as u8,
+            )),
             None => Err(AllocationError::OutOfMemory),
         }
     }
 
-    pub(super) fn take_bucket(&mut self, size: usize, align: usize) -> Result<PointerOffset, AllocationError>
+    pub(super) fn take_bucket(
+        &mut self,
+        size: usize,
+        align: usize,
+    ) -> Result<PointerOffset, AllocationError>
         ensures answer { λ r. ⌜ r ≡ dynamic-answer (dynamic-of (now (self .entry))) size align ⌝ }
         ensures pools { λ _. ⌜ dynamic-of (now (self .exit)) ≡ dynamic-after (dynamic-of (now (self .entry))) size align ⌝ }
     {

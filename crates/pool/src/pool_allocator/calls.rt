@@ -2,7 +2,6 @@
 ghost use mathlib.Core.Path.{_≡_};
 ghost use mathlib.Core.Bool.{true, false};
 ghost use lib.ListN.{length, getD};
-ghost use Rattle.std.specs.Options.{isSome};
 ghost use Rattle.std.specs.Vec.{made};
 ghost use Rattle.rules.specs.Memory.{Fair};
 ghost use Rattle.rules.specs.Pools.{new-pool, next, took, gave, fits};
@@ -13,7 +12,12 @@ use std::alloc::AllocError;
 use std::alloc::Global;
 
 impl PoolAllocator {
-    pub(crate) fn new(heap: Global, start: usize, bucket_size: usize, count: usize) -> Result<PoolAllocator, AllocError>
+    pub(crate) fn new(
+        heap: Global,
+        start: usize,
+        bucket_size: usize,
+        count: usize,
+    ) -> Result<PoolAllocator, AllocError>
         requires { ⌜ Fair «bucket_size» count ⌝ }
         ensures { λ r. ⌜ made r (λ p. pool-of p ≡ new-pool start «bucket_size» count) ⌝ }
     {
@@ -42,7 +46,11 @@ impl PoolAllocator {
     pub(crate) fn is_taken(&self, bucket: usize) -> bool
         ensures { λ r. ⌜ r ≡ getD (pool-of (now (self .entry)) .buckets .taken) bucket false ⌝ }
     {
-        if bucket < self.taken.len() { self.taken[bucket] } else { false }
+        if bucket < self.taken.len() {
+            self.taken[bucket]
+        } else {
+            false
+        }
     }
 
     // Whether a bucket as large as `size` can be taken.

@@ -2,7 +2,6 @@
 ghost use mathlib.Core.Path.{_≡_};
 ghost use Prim.Native.Nat.{_≤_};
 ghost use Rattle.std.specs.Vec.{made};
-ghost use Rattle.std.specs.Of.Vec.{vec-len};
 ghost use Rattle.rules.specs.Memory.{Fair};
 ghost use Rattle.rules.specs.Pools.{new-pool};
 ghost use Rattle.pool.specs.Model.{pool-of, spare-count};

@@ -56,15 +56,27 @@ pub impl Segmented for StaticMemory as StaticMemorySegmented {
     }
 
     fn bucket_size(&self, segment: usize) -> usize {
-        if segment == 0 { self.pool.bucket_size() } else { 0 }
+        if segment == 0 {
+            self.pool.bucket_size()
+        } else {
+            0
+        }
     }
 
     fn number_of_buckets(&self, segment: usize) -> usize {
-        if segment == 0 { self.pool.number_of_buckets() } else { 0 }
+        if segment == 0 {
+            self.pool.number_of_buckets()
+        } else {
+            0
+        }
     }
 
     fn start(&self, segment: usize) -> Option<usize> {
-        if segment == 0 { Some(self.pool.start()) } else { None }
+        if segment == 0 {
+            Some(self.pool.start())
+        } else {
+            None
+        }
     }
 
     fn capacity(&self) -> usize {
@@ -103,7 +115,8 @@ pub impl Memory for StaticMemory as StaticMemoryMemory {
         if !self.is_taken(offset) {
             return Err(DeallocationError::NotTaken);
         }
-        self.pool.give_back(offset.offset() / self.pool.bucket_size());
+        self.pool
+            .give_back(offset.offset() / self.pool.bucket_size());
         Ok(())
     }
 }

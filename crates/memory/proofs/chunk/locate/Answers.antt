@@ -1,5 +1,4 @@
 use mathlib.Core.Path.{sym, _∙_, ap}
-use Rattle.std.specs.declared.option.Option.the-variants.{None}
 use Rattle.std.proofs.shelf.Tests.{cond-false}
 use Rattle.rules.specs.Memory.{start-of}
 use Rattle.rules.proofs.Chunks.{startless}

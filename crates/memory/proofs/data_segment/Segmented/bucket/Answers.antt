@@ -8,4 +8,4 @@ returns-then-size-eq0 g c =
     let m = g .Self·Segmented .model (c .args .self .now) in
     let s = c .from-segment .ensures ∙ c .segment-id .ensures in
     sym (sizeless _ m (c .args .offset .value) (g .Self·Segmented·met .sound (c .args .self .now))
-      (ap (λ k. segment-at (m .segments) k .size) (sym s) ∙ (sym (c .bucket-size-size .ensures) ∙ c .if-size-eq0 .taken)))
+    (ap (λ k. segment-at (m .segments) k .size) (sym s) ∙ (sym (c .bucket-size-size .ensures) ∙ c .if-size-eq0 .taken)))

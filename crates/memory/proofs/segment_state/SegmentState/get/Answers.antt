@@ -2,7 +2,6 @@ use mathlib.Core.Path.{sym, ap, _∙_}
 use lib.ListN.{getD}
 use Rattle.memory.proofs.Rows.{row-at, row-past}
 use Rattle.memory.proofs.segment_state.SegmentState.get.Needs as need
-use borrow.Author.Needs.{needs}
 use native.Mathlib.Omega.{arith}
 
 pub returns-then-segment-len : need.returns-then-segment-len

@@ -1,7 +1,5 @@
-use Prim.Native.Nat.{_≤_, _<_}
-use mathlib.Core.Path.{_≡_, sym, _∙_, ap}
+use mathlib.Core.Path.{sym, _∙_, ap}
 use native.Mathlib.Omega.{arith}
-use lib.ListN.{length}
 use Rattle.std.specs.Of.Vec.{vec-items}
 use Rattle.std.proofs.shelf.Tests.{cond-true, cond-false}
 use Rattle.rules.specs.Pools.{fits}

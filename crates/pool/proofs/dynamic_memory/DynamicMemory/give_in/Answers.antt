@@ -1,4 +1,4 @@
-use mathlib.Core.Path.{_≡_, sym, _∙_, ap, subst}
+use mathlib.Core.Path.{sym, _∙_, ap, subst}
 use mathlib.Core.Bool.{false}
 use native.Mathlib.Omega.{arith}
 use lib.ListN.{getD}
@@ -20,7 +20,7 @@ ghost-self c =
     let ps = pools-in (vec-items v) in
     let e = pools-set v (c .args .segment) _ (c .give-back .last .self) (λ p. gave p (c .args .bucket)) (omega arith) (c .index-mut .ensures .value) (c .give-back .ensures) in
     let l = subst (λ qs. Layout (segments-of qs) (s .end) (s .count)) (sym e)
-      (layout-pools ps (c .args .segment) _ (s .end) (s .count) (alike-gave (pool-at ps (c .args .segment)) (c .args .bucket)) (record { laid = s .laid; rising = s .rising; even = s .even })) in
+    (layout-pools ps (c .args .segment) _ (s .end) (s .count) (alike-gave (pool-at ps (c .args .segment)) (c .args .bucket)) (record { laid = s .laid; rising = s .rising; even = s .even })) in
     (s .four, (s .room, (s .sized, (l .laid, (l .rising, (l .even, (s .spares, tt)))))))
 
 pub returns-then-segment-len : need.returns-then-segment-len

@@ -1,6 +1,5 @@
 use Prim.Native.Nat.{_+_, _*_, _≤_, _<_}
 use mathlib.Core.Path.{_≡_, refl, sym, _∙_, ap, subst}
-use mathlib.Core.List.{[], _∷_, _++_, map}
 use mathlib.Core.Bool.{true, false}
 use native.Mathlib.Omega.{arith}
 use native.Mathlib.Nat.{mul-le-mul}
@@ -11,7 +10,7 @@ use Rattle.std.proofs.shelf.Lists.{map-push, length-replicate}
 use Rattle.std.proofs.shelf.Tests.{and-from, and-left, lt-ltb, le-ltb, le-leb, cond-true, cond-false}
 use Rattle.rules.specs.Memory.{blank}
 use Rattle.rules.specs.Pools.{Pool, Dynamic, new-pool, rounded, segments-of, can-grow, grown}
-use Rattle.pool.specs.Model.{pool-of, pools-in, spare-count}
+use Rattle.pool.specs.Model.{pools-in}
 use Rattle.pool.specs.Dynamic.{dynamic-of}
 use Rattle.pool.proofs.Layouts.{Layout, layout-push, pools-length, spares-pop}
 use Rattle.pool.proofs.Dynamics.{grown-pools}
@@ -25,12 +24,19 @@ ghost-self-in-Some c =
     let p = spares-pop _ _ _ _ (c .in-Some .ensures tt .items) (s .spares) in
     let l = layout-push (segments-of ps) g (s .end) (s .count) refl (length-replicate (s .count) false) (record { laid = s .laid; rising = s .rising; even = s .even }) in
     let m = subst (λ gs. Layout gs (s .end + rounded (c .args .size) * s .count) (s .count))
-      (sym (ap segments-of (grown-pools s (c .args .size) _ _ _ _ (c .push-reserved .ensures .items) (c .in-Some .ensures tt .items) (c .lay .ensures)) ∙ map-push (λ (q : Pool). q .buckets) ps (new-pool (s .end) (rounded (c .args .size)) (s .count)))) l in
+    (sym (ap segments-of (grown-pools s (c .args .size) _ _ _ _ (c .push-reserved .ensures .items) (c .in-Some .ensures tt .items) (c .lay .ensures)) ∙ map-push (λ (q : Pool). q .buckets) ps (new-pool (s .end) (rounded (c .args .size)) (s .count)))) l in
     let z : rounded (c .args .size) ≤ 65536 = omega (arith, c .pre) in
     let span : rounded (c .args .size) * s .count ≤ 65536 * 256 = mul-le-mul z (s .sized .4) in
-    let n : vec-len (c .push-reserved .last .self) ≡ vec-len (s .live) + 1 = c .push-reserved .ensures .len in
-    (search needs, (search needs, ((omega arith, omega (arith, c .if-span-self .left, s .sized .1), omega (arith, s .sized .2), s .sized .3, s .sized .4)
-    , (m .laid, (m .rising, (m .even, (p .0, tt)))))))
+    let n : vec-len (c .push-reserved .last .self) ≡ vec-len (s .live) + 1 = c .push-reserved .ensures .len in (
+      search needs,
+      (
+        search needs,
+        (
+          (omega arith, omega (arith, c .if-span-self .left, s .sized .1), omega (arith, s .sized .2), s .sized .3, s .sized .4),
+          (m .laid, (m .rising, (m .even, (p .0, tt)))),
+        ),
+      ),
+    )
 
 pub returns-in-None : need.returns-in-None
 returns-in-None c =
@@ -48,4 +54,5 @@ returns-in-Some c =
     let grows : Dynamic = grown (dynamic-of s) (c .args .size) in
     record {
       value = sym yes;
-      after = ap (λ ps. record { pools = ps; count = s .count; end = grows .end; capacity = s .capacity }) (grown-pools s (c .args .size) _ _ _ _ (c .push-reserved .ensures .items) (c .in-Some .ensures tt .items) (c .lay .ensures)) ∙ sym (cond-true _ _ _ yes) }
+      after = ap (λ ps. record { pools = ps; count = s .count; end = grows .end; capacity = s .capacity }) (grown-pools s (c .args .size) _ _ _ _ (c .push-reserved .ensures .items) (c .in-Some .ensures tt .items) (c .lay .ensures)) ∙ sym (cond-true _ _ _ yes);
+    }

@@ -16,5 +16,6 @@ returns-then-grow c =
     let yes = sym (c .if-grow .ensures tt .value) in
     record {
       value = ap Some (c .len-segment .ensures ∙ sym (pools-length (m .live)))
-        ∙ (sym (cond-true _ _ None yes) ∙ ap (λ x. by x (cond (can-grow d (c .args .size)) (Some (length (d .pools))) None) (λ s. Some s)) none);
-      after = c .if-grow .ensures tt .after ∙ ap (λ x. by x (cond (can-grow d (c .args .size)) (grown d (c .args .size)) d) (λ s. d)) none }
+          ∙ (sym (cond-true _ _ None yes) ∙ ap (λ x. by x (cond (can-grow d (c .args .size)) (Some (length (d .pools))) None) (λ s. Some s)) none);
+      after = c .if-grow .ensures tt .after ∙ ap (λ x. by x (cond (can-grow d (c .args .size)) (grown d (c .args .size)) d) (λ s. d)) none;
+    }

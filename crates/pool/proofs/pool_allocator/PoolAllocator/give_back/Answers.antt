@@ -10,6 +10,7 @@ push-reserved-requires c κs =
     omega arith
 
 pub ghost-self : need.ghost-self
-ghost-self c =
-    ( c .args .self .now .fair
-    , kept-give (c .args .self .now) (c .args .bucket) (c .push-reserved .ensures .items) (c .push-reserved .ensures .capacity) (c .pre))
+ghost-self c = (
+  c .args .self .now .fair,
+  kept-give (c .args .self .now) (c .args .bucket) (c .push-reserved .ensures .items) (c .push-reserved .ensures .capacity) (c .pre),
+)

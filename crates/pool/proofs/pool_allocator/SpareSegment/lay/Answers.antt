@@ -1,5 +1,3 @@
-use native.Mathlib.Omega.{arith}
-use borrow.Author.Needs.{needs}
 use Rattle.pool.proofs.Pools.{kept-new}
 use Rattle.pool.proofs.pool_allocator.SpareSegment.lay.Needs as need
 

@@ -15,6 +15,7 @@ returns c =
     record {
       fault = ap errPart a ∙ r .0;
       after = subst (λ x. Allocates (dynamic-mem (dynamic-of m)) (c .args .size) x (dynamic-mem (dynamic-of (c .take-bucket .last .self)))) (sym a)
-        (subst (λ q. Allocates (dynamic-mem (dynamic-of m)) (c .args .size) (dynamic-answer (dynamic-of m) (c .args .size) (c .args .align)) (dynamic-mem q)) (sym b) (r .1));
+          (subst (λ q. Allocates (dynamic-mem (dynamic-of m)) (c .args .size) (dynamic-answer (dynamic-of m) (c .args .size) (c .args .align)) (dynamic-mem q)) (sym b) (r .1));
       answer = a;
-      pools = b }
+      pools = b;
+    }

@@ -1,7 +1,6 @@
 use mathlib.Core.Path.{sym, _∙_, ap}
-use mathlib.Core.Bool.{false, true}
+use mathlib.Core.Bool.{false}
 use lib.ListN.{getD, set}
-use Rattle.std.specs.declared.option.Option.the-variants.{Some, None}
 use Rattle.std.proofs.shelf.Tests.{cond-true}
 use Rattle.elementary.specs.Ids.{segment}
 use Rattle.rules.specs.Pools.{pool-at, gave, with-pools, dynamic-mem}
@@ -24,6 +23,6 @@ returns c =
     let t = sym (c .if-not-is-taken .ensures tt) in
     let b = taken-bucket ps o (c .in-Some .bucket) t (c .in-Some .ensures tt) .0 in
     let gone = c .give-in .ensures
-      ∙ (ap (λ k. with-pools d (set ps k (gave (pool-at ps k) (c .in-Some .bucket)))) (c .from .ensures ∙ c .segment-id .ensures)
-      ∙ (ap (λ x. with-pools d (set ps (segment o) (gave (pool-at ps (segment o)) x))) b ∙ sym (cond-true _ _ _ t))) in
+    ∙ (ap (λ k. with-pools d (set ps k (gave (pool-at ps k) (c .in-Some .bucket)))) (c .from .ensures ∙ c .segment-id .ensures)
+    ∙ (ap (λ x. with-pools d (set ps (segment o) (gave (pool-at ps (segment o)) x))) b ∙ sym (cond-true _ _ _ t))) in
     record { fault = sym (cond-true _ _ _ t); after = ap dynamic-mem gone ∙ dynamic-frees d o; pools = gone }

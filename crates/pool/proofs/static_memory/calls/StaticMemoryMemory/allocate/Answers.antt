@@ -15,6 +15,7 @@ returns c =
     record {
       fault = ap errPart a ∙ r .0;
       after = subst (λ x. Allocates (static-mem (static-of m)) (c .args .size) x (static-mem (static-of (c .take-bucket .last .self)))) (sym a)
-        (subst (λ q. Allocates (static-mem (static-of m)) (c .args .size) (static-answer (static-of m) (c .args .size) (c .args .align)) (static-mem q)) (sym b) (r .1));
+          (subst (λ q. Allocates (static-mem (static-of m)) (c .args .size) (static-answer (static-of m) (c .args .size) (c .args .align)) (static-mem q)) (sym b) (r .1));
       answer = a;
-      pool = b }
+      pool = b;
+    }
