@@ -5,9 +5,9 @@ mod maps;
 use elementary::error::AllocationErrorRefused;
 use elementary::error::FillErrorRefused;
 use elementary::error::ReadErrorRefused;
+use elementary::error::RefusalDisplay;
 use elementary::error::Refused;
 use elementary::error::SetUpError;
-use elementary::error::RefusalDisplay;
 use elementary::pointer_offset::PointerOffset;
 use feed::Feed;
 use maps::MAP_BYTES;
@@ -19,7 +19,9 @@ use pool::static_memory::StaticMemorySegmented;
 use std::error::AnyError;
 
 const MAPS: usize = 12;
+
 const BUCKETS: usize = 3;
+
 const HOLDERS: [&str; 3] = ["plot", "solver", "archive"];
 
 // Who still holds a map after the next one was sent.
@@ -45,13 +47,21 @@ fn let_go(rt: &impl Print, feed: &mut Feed<StaticMemory>, late: Late) -> Result<
     if feed.is_taken(late.offset) {
         println!(rt, "  {holder} lets go of map {map}, {before} held it")?;
     } else {
-        println!(rt, "  {holder} lets go of map {map}, {before} held it: the bucket at {offset} is free")?;
+        println!(
+            rt,
+            "  {holder} lets go of map {map}, {before} held it: the bucket at {offset} is free"
+        )?;
     }
     Ok(())
 }
 
 // Loans a chunk for a map, fills it, and counts the three consumers; the loan ends.
-fn send(rt: &impl Print, feed: &mut Feed<StaticMemory>, map: usize, bytes: &mut [u8]) -> Result<PointerOffset, AnyError> {
+fn send(
+    rt: &impl Print,
+    feed: &mut Feed<StaticMemory>,
+    map: usize,
+    bytes: &mut [u8],
+) -> Result<PointerOffset, AnyError> {
     draw(bytes, map);
     let offset = match feed.loan(MAP_BYTES) {
         Ok(offset) => offset,
@@ -76,11 +86,18 @@ fn send(rt: &impl Print, feed: &mut Feed<StaticMemory>, map: usize, bytes: &mut 
         }
     };
     let value = offset.value;
-    println!(rt, "map {map}: the bucket at {value} is taken, the sum of its bytes is {total}, {holders} hold it")?;
+    println!(
+        rt,
+        "map {map}: the bucket at {value} is taken, the sum of its bytes is {total}, {holders} hold it"
+    )?;
     Ok(offset)
 }
 
-fn second(rt: &impl Print, feed: &mut Feed<StaticMemory>, bytes: &mut [u8]) -> Result<(), AnyError> {
+fn second(
+    rt: &impl Print,
+    feed: &mut Feed<StaticMemory>,
+    bytes: &mut [u8],
+) -> Result<(), AnyError> {
     let mut late: Option<Late> = None;
     for map in 0..MAPS {
         let offset = send(rt, feed, map, bytes)?;
@@ -88,9 +105,29 @@ fn second(rt: &impl Print, feed: &mut Feed<StaticMemory>, bytes: &mut [u8]) -> R
             let_go(rt, feed, last)?;
         }
         // Each map is let go in another order, and by its last holder only when the next map is out.
-        let_go(rt, feed, Late { map, holder: map, offset })?;
-        let_go(rt, feed, Late { map, holder: map + 1, offset })?;
-        late = Some(Late { map, holder: map + 2, offset });
+        let_go(
+            rt,
+            feed,
+            Late {
+                map,
+                holder: map,
+                offset,
+            },
+        )?;
+        let_go(
+            rt,
+            feed,
+            Late {
+                map,
+                holder: map + 1,
+                offset,
+            },
+        )?;
+        late = Some(Late {
+            map,
+            holder: map + 2,
+            offset,
+        });
     }
     if let Some(last) = late {
         let_go(rt, feed, last)?;
@@ -111,7 +148,10 @@ fn run(rt: &LibcRuntime) -> Result<(), AnyError> {
     };
     let mut feed = Feed::new(heap, memory)?;
     let mut bytes = vec![in heap; 0u8; MAP_BYTES]?;
-    println!(rt, "{MAPS} maps of {MAP_BYTES} bytes over {BUCKETS} buckets")?;
+    println!(
+        rt,
+        "{MAPS} maps of {MAP_BYTES} bytes over {BUCKETS} buckets"
+    )?;
     second(rt, &mut feed, &mut bytes)?;
     let taken = feed.taken();
     let freed = feed.freed();

@@ -1,3 +1,5 @@
 pub mod Chunks
 pub mod Marks
 pub mod Totals
+pub mod Offsets
+pub mod Banks

@@ -1,2 +1,3 @@
 // The specification that every contract cites stands in specs/. Here are the functions whose contracts are its laws.
+pub mod bank_laws;
 pub mod memory_laws;

