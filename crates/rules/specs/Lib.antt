@@ -4,4 +4,6 @@ pub mod Bytes
 pub mod Pools
 pub mod Links
 pub mod Bank
+pub mod Publisher
+pub mod Subscriber
 pub mod Laws
