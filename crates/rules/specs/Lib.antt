@@ -6,4 +6,5 @@ pub mod Links
 pub mod Bank
 pub mod Publisher
 pub mod Subscriber
+pub mod Exchange
 pub mod Laws
