@@ -43,7 +43,7 @@ use Rattle.rules.proofs.Offsets.{one, times-append, times-push, times-split, l
 -- LISTS OF A LINK
 
 -- how often the three lists together have an offset
-listed-times : (l : Link) (o : ℕ) → times (listed l) o ≡ times (l .waiting) o + (times (l .borrowed) o + times (l .returned) o)
+pub listed-times : (l : Link) (o : ℕ) → times (listed l) o ≡ times (l .waiting) o + (times (l .borrowed) o + times (l .returned) o)
 listed-times l o = omega (arith, times-append (l .waiting) (l .borrowed ++ l .returned) o, times-append (l .borrowed) (l .returned) o)
 
 -- a link with other lists is proper if they are short enough and no offset comes more often
@@ -123,7 +123,7 @@ proper-receive l p = go (attached (l .receiver-end) && can-borrow l) refl
         (λ o. omega (arith, before l p o, times-append (l .borrowed) (listOf (oldest (l .waiting))) o, times-split (l .waiting) o))
 
 -- what a release that is not refused found
-releasable : (l : Link) (o : PointerOffset) → isSome (release-fault l o) ≡ false → (has same-chunk (l .borrowed) o ≡ true) × (length (l .returned) < most-returned l)
+pub releasable : (l : Link) (o : PointerOffset) → isSome (release-fault l o) ≡ false → (has same-chunk (l .borrowed) o ≡ true) × (length (l .returned) < most-returned l)
 releasable l o e = go (attached (l .receiver-end)) (has same-chunk (l .borrowed) o) (ltb (length (l .returned)) (most-returned l)) refl refl e
   where
     go : (a h r : Bool) → has same-chunk (l .borrowed) o ≡ h → ltb (length (l .returned)) (most-returned l) ≡ r

@@ -3,3 +3,5 @@ pub mod Marks
 pub mod Totals
 pub mod Offsets
 pub mod Banks
+pub mod Holdings
+pub mod Halves

@@ -7,4 +7,5 @@ pub mod Bank
 pub mod Publisher
 pub mod Subscriber
 pub mod Exchange
+pub mod Holdings
 pub mod Laws
