@@ -5,3 +5,4 @@ pub mod Offsets
 pub mod Banks
 pub mod Holdings
 pub mod Halves
+pub mod Worked

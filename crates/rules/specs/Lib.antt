@@ -8,4 +8,5 @@ pub mod Publisher
 pub mod Subscriber
 pub mod Exchange
 pub mod Holdings
+pub mod Examples
 pub mod Laws
