@@ -6,3 +6,5 @@ pub mod Banks
 pub mod Holdings
 pub mod Halves
 pub mod Worked
+pub mod Recounts
+pub mod Keep

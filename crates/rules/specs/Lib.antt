@@ -9,4 +9,5 @@ pub mod Subscriber
 pub mod Exchange
 pub mod Holdings
 pub mod Examples
+pub mod Books
 pub mod Laws

@@ -1,0 +1,62 @@
+-- A publisher's books: how the counts of its chunks stand to who holds them.
+use Prim.Native.Nat.{ℕ, _+_, _≤_, _<_}
+use mathlib.Core.Path.{_≡_}
+use mathlib.Core.List.{List, _∷_}
+use mathlib.Core.Bool.{Bool, true, false, cond, _&&_}
+use lib.Dec.{ltb}
+use lib.ListN.{length, getD}
+use Rattle.std.specs.shelf.Lists.{sumBy}
+use Rattle.std.specs.declared.option.Option.{Option}
+use Rattle.elementary.specs.Ids.{same-port}
+use Rattle.elementary.specs.declared.port_id.PortId.{PortId}
+use Rattle.elementary.specs.declared.pointer_offset.PointerOffset.{PointerOffset}
+use Rattle.rules.specs.Memory.{Segment, segment-at, is-chunk, taken-at}
+use Rattle.rules.specs.Counts.{Chunks, counts-of, count-at}
+use Rattle.rules.specs.Pools.{by}
+use Rattle.rules.specs.Links.{Link, attached, listed, times}
+use Rattle.rules.specs.Bank.{Places}
+use Rattle.rules.specs.Publisher.{Pub, hold, let-go}
+
+-- a link of a publisher bears its id, and its sender end is attached
+abbrev pub mine : PortId → Link → Bool
+mine id l = attached (l .sender-end) && same-port (l .details .«sender_port_id») id
+
+-- how often a place holds a chunk for a publisher, and how often all its links do
+abbrev pub held-here : PortId → ℕ → Option Link → ℕ
+held-here id o x = by x 0 (λ l. cond (mine id l) (times (listed l) o) 0)
+
+abbrev pub held-by : PortId → Places → ℕ → ℕ
+held-by id ps o = sumBy (held-here id o) ps
+
+-- how many hold a chunk, as the publisher counts them
+abbrev pub count-of : Pub → ℕ → ℕ
+count-of p o = count-at (p .chunks .mem .segments) (p .chunks .counts) o
+
+-- the counts have a place for every bucket that the memory may come to have, and are 0 where there is none yet
+pub record Ledger (c : Chunks) : Type 0 where
+  pub segments : length (c .mem .segments) ≤ 4
+  pub buckets : (s : ℕ) → length (segment-at (c .mem .segments) s .taken) ≤ 256
+  pub room : (s : ℕ) → s < 4 → 256 ≤ length (counts-of (c .counts) s)
+  pub unused : (s b : ℕ) → length (segment-at (c .mem .segments) s .taken) ≤ b → getD (counts-of (c .counts) s) b 0 ≡ 0
+
+-- the books in the middle of a call: the loans that count, and the chunks that the call has in hand
+pub record Books (loans hand : List PointerOffset) (p : Pub) (ps : Places) : Type 0 where
+  pub ledger : Ledger (p .chunks)
+  -- a chunk's count is its loans, its history entries, the links that hold it, and what is in hand
+  pub balance : (o : ℕ) → count-of p o ≡ times loans o + (times (p .history) o + (held-by (p .id) ps o + times hand o))
+  -- its bucket is taken exactly where that is not zero
+  pub free : (o : ℕ) → taken-at (p .chunks .mem .segments) o ≡ ltb 0 (count-of p o)
+  -- a chunk on loan has no other holder
+  pub alone : (o : ℕ) → 0 < times loans o → count-of p o ≡ 1
+  pub once : (o : ℕ) → times (p .history) o ≤ 1
+
+-- the three moves of which every call is made keep the books
+pub record Moves-keep-the-books : Type 0 where
+  -- one holder more
+  pub holding : (loans hand : List PointerOffset) (p : Pub) (ps : Places) (o : PointerOffset) → Books loans hand p ps
+    → 0 < count-of p (o .value) → count-of p (o .value) < 10 → times loans (o .value) ≡ 0 → Books loans (o ∷ hand) (hold p o) ps
+  -- one holder less: the last one frees the bucket
+  pub letting-go : (loans hand : List PointerOffset) (p : Pub) (ps : Places) (o : PointerOffset) → Books loans (o ∷ hand) p ps → Books loans hand (let-go p o) ps
+  -- a holder that becomes another kind of holder
+  pub moving : (loans hand hand′ : List PointerOffset) (p : Pub) (ps qs : Places)
+    → ((o : ℕ) → held-by (p .id) qs o + times hand′ o ≡ held-by (p .id) ps o + times hand o) → Books loans hand p ps → Books loans hand′ p qs
