@@ -5,19 +5,17 @@ use mathlib.Core.List.{List, [], _∷_, _++_}
 use mathlib.Core.Bool.{Bool, true, false, cond, _&&_, _||_}
 use mathlib.Core.Logic.{_⊎_, inl, inr, ⊎-elim}
 use native.Mathlib.Omega.{arith}
-use lib.Dec.{eqb, ltb}
-use lib.ListN.{length, getD, set}
+use lib.Dec.{ltb}
+use lib.ListN.{length, set}
 use Rattle.std.specs.Iters.{folded}
 use Rattle.std.specs.Options.{mapped, isSome}
 use Rattle.std.specs.Results.{isOk}
 use Rattle.std.specs.Vec.{listOf}
 use Rattle.std.specs.declared.option.Option.{Option}
 use Rattle.std.specs.declared.option.Option.the-variants.{Some, None}
-use Rattle.std.specs.declared.result.Result.{Result}
 use Rattle.std.specs.declared.result.Result.the-variants.{Ok, Err}
-use Rattle.std.proofs.shelf.Lists.{getD-set-same, getD-set-other, set-past, length-append, length-push, getD-past}
+use Rattle.std.proofs.shelf.Lists.{getD-set-same, getD-set-other, set-past, length-append, length-push}
 use Rattle.std.proofs.shelf.Tests.{cases-eq, cases-lt, cases-bool, and-parts, and-from, eqb-true, or-parts, cond-both, cond-true, cond-false, ltb-true, ltb-false, eq-eqb, ne-eqb, eqb-false, lt-ltb, le-ltb, or-left, or-right, false≢true, true≢false}
-use Rattle.std.proofs.shelf.Ways.{tells}
 use Rattle.container.specs.Queue.{oldest, later, roomy, overflowed, evicted, has, without}
 use Rattle.elementary.specs.Ids.{same-chunk, same-port}
 use Rattle.elementary.specs.declared.port_id.PortId.{PortId}
@@ -36,8 +34,8 @@ use Rattle.elementary.specs.declared.error.ZeroCopyReleaseError.the-variants as
 use Rattle.elementary.specs.declared.error.ZeroCopyCreationError.{ZeroCopyCreationError}
 use Rattle.elementary.specs.declared.error.ZeroCopyCreationError.the-variants as creating
 use Rattle.rules.specs.Pools.{by}
-use Rattle.rules.specs.Links.{Link, Proper, attached, never, standing, next-standing, stepped, alive, fresh, listed, lists, times, with-lists, sound-send, marked-send, send-answer, send-after, reclaim-after, can-borrow, receive-after, release-fault, release-after, most-returned}
-use Rattle.rules.specs.Bank.{Places, at, changed, sent, reclaimed, received, given-back, first, is-empty, between, connects, join-fault, bad-buffer, bad-borrow, create-fault, May-take, created, kept, detached, Move, receive-at, release-at, moved, Turned, Sound-bank, Stays-sound}
+use Rattle.rules.specs.Links.{Link, Proper, attached, never, standing, next-standing, stepped, alive, fresh, listed, lists, times, with-lists, marked-send, send-answer, send-after, reclaim-after, can-borrow, receive-after, release-fault, release-after, most-returned}
+use Rattle.rules.specs.Bank.{Places, at, changed, sent, reclaimed, first, between, connects, join-fault, bad-buffer, bad-borrow, create-fault, May-take, created, kept, detached, Move, receive-at, release-at, moved, Turned, Sound-bank, Stays-sound}
 use Rattle.rules.proofs.Offsets.{one, times-append, times-push, times-split, later-short, absent-times, without-times, without-length, overflowed-length, overflowed-times}
 
 -- LISTS OF A LINK

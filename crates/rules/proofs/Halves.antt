@@ -1,10 +1,9 @@
 -- No call of a subscriber changes what the links hold for their senders.
 use Prim.Native.Nat.{ℕ, zero, suc, _+_}
-use mathlib.Core.Path.{_≡_, refl, sym, ap, subst}
-use mathlib.Core.List.{List, [], _∷_, _++_}
-use mathlib.Core.Bool.{Bool, true, false, cond, not, _||_, _&&_}
-use lib.Dec.{ltb}
-use lib.ListN.{length, drop, set, getD}
+use mathlib.Core.Path.{_≡_, sym, subst}
+use mathlib.Core.List.{List, [], _∷_}
+use mathlib.Core.Bool.{Bool, true, false, cond, _||_}
+use lib.ListN.{length, drop, getD}
 use Rattle.std.specs.Options.{isSome}
 use Rattle.std.specs.Holes.{removed}
 use Rattle.std.specs.declared.option.Option.{Option}
@@ -24,7 +23,7 @@ use Rattle.elementary.specs.declared.error.ZeroCopyCreationError.{ZeroCopyCreat
 use Rattle.rules.specs.Pools.{by}
 use Rattle.rules.specs.Bank.{Places, receives, received, given-back, created, detached, has-data}
 use Rattle.rules.specs.Publisher.{Goes, first-of, is-seen}
-use Rattle.rules.specs.Subscriber.{Stored, Half, with-links, with-slots, with-storage, with-expired, key-at, stored-at, has-borrows, dropped, victim, struck, has-room, room-made, listed, busy, key-prepared, prepared, prepare-fault, begun, tag-slot, tagged, has-peer, wanted, has-key, stored-new, made-at, MakesBy, Makes, link-fault, Enters, entry-fault, stops, malformed, is-stale, taken-out, visited, visit-fault, swept, Ended, finished, Cycles, Updates, Translation, told, left, asks, asked, Way, gives, drops, ends, Walk, passed, walk, Walked, onward, walks, expired-walk, Served, served, serve, storage-walk, receive-after, over, release-after, ends-detached}
+use Rattle.rules.specs.Subscriber.{Stored, Half, with-links, with-expired, key-at, stored-at, has-borrows, dropped, victim, struck, has-room, room-made, listed, busy, key-prepared, prepared, prepare-fault, begun, tag-slot, has-peer, wanted, has-key, stored-new, made-at, MakesBy, Makes, link-fault, Enters, entry-fault, stops, malformed, is-stale, taken-out, visited, visit-fault, swept, finished, Cycles, Updates, Translation, left, asks, asked, Way, gives, drops, ends, Walk, passed, walk, Walked, onward, walks, expired-walk, Served, served, serve, receive-after, over, release-after, ends-detached}
 use Rattle.rules.specs.Holdings.{Held-same, Nothing-taken-away}
 use Rattle.rules.proofs.Holdings.{held-refl, held-trans, held-received, held-given-back, held-detached, held-created, held-turned}
 

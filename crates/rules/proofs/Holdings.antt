@@ -15,12 +15,11 @@ use Rattle.elementary.specs.Ids.{same-chunk}
 use Rattle.elementary.specs.declared.pointer_offset.PointerOffset.{PointerOffset}
 use Rattle.elementary.specs.declared.link.LinkDetails.{LinkDetails}
 use Rattle.elementary.specs.declared.link.End.the-variants.{Receiver}
-use Rattle.elementary.specs.declared.link.Event.{Event}
 use Rattle.elementary.specs.declared.link.Event.the-variants.{Attach, Detach}
 use Rattle.rules.specs.Pools.{by}
 use Rattle.rules.specs.Links.{Link, attached, next-standing, stepped, fresh, listed, times, with-lists, can-borrow, receive-after, release-fault, release-after}
 use Rattle.rules.specs.Bank.{Places, at, changed, received, given-back, created, kept, detached, Move, receive-at, release-at, moved, Turned}
-use Rattle.rules.specs.Holdings.{owned, holding, Keeps, Held-same}
+use Rattle.rules.specs.Holdings.{Keeps, Held-same}
 use Rattle.rules.proofs.Offsets.{times-append, times-push, times-split, without-times}
 use Rattle.rules.proofs.Banks.{listed-times, releasable}
 

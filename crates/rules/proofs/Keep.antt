@@ -1,21 +1,21 @@
 -- The moves of which every call is made keep a publisher's books.
 use Prim.Native.Nat.{ℕ, _+_, _-_, _≤_, _<_}
 use mathlib.Core.Path.{_≡_, refl, sym, _∙_, ap, subst}
-use mathlib.Core.List.{List, [], _∷_}
-use mathlib.Core.Bool.{Bool, true, false, cond, _&&_}
+use mathlib.Core.List.{List, _∷_}
+use mathlib.Core.Bool.{Bool, true, false, cond}
 use mathlib.Core.Logic.{⊎-elim}
 use native.Mathlib.Omega.{arith}
 use lib.Dec.{eqb, ltb}
 use lib.ListN.{length, getD, set}
 use Rattle.std.proofs.shelf.Lists.{getD-set-other, length-set}
-use Rattle.std.proofs.shelf.Tests.{cases-bool, cases-eq, cases-lt, cond-true, cond-false, lt-ltb, le-ltb, ltb-true, eq-eqb, ne-eqb, eqb-true, eqb-false, and-left}
+use Rattle.std.proofs.shelf.Tests.{cases-bool, cases-eq, cases-lt, cond-true, cond-false, lt-ltb, le-ltb, eq-eqb, ne-eqb}
 use Rattle.elementary.specs.Ids.{segment}
 use Rattle.elementary.specs.declared.pointer_offset.PointerOffset.{PointerOffset}
 use Rattle.rules.specs.Memory.{Mem, Segment, segment-at, home, bucket, is-chunk, taken-at, marked, remarked, with-segments, freed}
-use Rattle.rules.specs.Counts.{Counts, Chunks, counts-of, count-at, recounted, raised, counted, uncounted, borrowed, released}
+use Rattle.rules.specs.Counts.{Counts, Chunks, counts-of, count-at, recounted, raised, counted, uncounted, released}
 use Rattle.rules.specs.Links.{times}
 use Rattle.rules.specs.Bank.{Places}
-use Rattle.rules.specs.Publisher.{Pub, hold, let-go, with-chunks}
+use Rattle.rules.specs.Publisher.{Pub, hold, let-go}
 use Rattle.rules.specs.Books.{held-by, count-of, Ledger, Books, Moves-keep-the-books}
 use Rattle.rules.proofs.Chunks.{chunk-bucket, chunk-there}
 use Rattle.rules.proofs.Marks.{mark-count, mark-same, mark-other}

@@ -1,16 +1,16 @@
 -- How often a list of offsets has one.
-use Prim.Native.Nat.{ℕ, _+_, _≤_, _<_}
+use Prim.Native.Nat.{ℕ, _+_, _≤_}
 use mathlib.Core.Path.{_≡_, refl, sym, _∙_, ap}
 use mathlib.Core.List.{List, [], _∷_, _++_}
-use mathlib.Core.Bool.{Bool, true, false, cond, _||_}
+use mathlib.Core.Bool.{true, false, cond, _||_}
 use mathlib.Core.Logic.{⊎-elim}
 use native.Mathlib.Omega.{arith}
-use lib.Dec.{eqb, ltb}
+use lib.Dec.{eqb}
 use lib.ListN.{length}
 use Rattle.std.specs.Vec.{listOf}
 use Rattle.std.proofs.shelf.Lists.{length-push}
 use Rattle.std.proofs.shelf.Sums.{sumBy-cons, sumBy-append}
-use Rattle.std.proofs.shelf.Tests.{cases-bool, cases-eq, eq-eqb, ne-eqb, eqb-true, eqb-false, or-parts, cond-true, cond-false, ltb-true, ltb-false, cond-both, false≢true}
+use Rattle.std.proofs.shelf.Tests.{cases-bool, eqb-true, or-parts, cond-true, cond-false, ltb-true, cond-both, false≢true}
 use Rattle.container.specs.Queue.{oldest, later, roomy, overflowed, has, without}
 use Rattle.elementary.specs.Ids.{same-chunk}
 use Rattle.elementary.specs.declared.pointer_offset.PointerOffset.{PointerOffset}

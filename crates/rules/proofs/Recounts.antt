@@ -1,16 +1,15 @@
 -- What a change of one count does to all.
-use Prim.Native.Nat.{ℕ, _+_, _-_, _≤_, _<_}
-use mathlib.Core.Path.{_≡_, refl, sym, _∙_, ap, subst}
-use mathlib.Core.List.{List, [], _∷_}
-use mathlib.Core.Bool.{Bool, true, false, cond, _&&_}
+use Prim.Native.Nat.{ℕ, _-_, _<_}
+use mathlib.Core.Path.{_≡_, sym, _∙_, ap}
+use mathlib.Core.List.{List, []}
+use mathlib.Core.Bool.{Bool, true, cond}
 use mathlib.Core.Logic.{⊎-elim}
 use native.Mathlib.Omega.{arith}
-use lib.Dec.{eqb, ltb}
 use lib.ListN.{length, getD, set}
 use Rattle.std.proofs.shelf.Lists.{getD-set-same, getD-set-other, getD-past, set-past}
 use Rattle.std.proofs.shelf.Tests.{cases-bool, cases-eq, cases-lt, cond-true, cond-false}
 use Rattle.elementary.specs.Ids.{segment}
-use Rattle.rules.specs.Memory.{Segment, segment-at, home, bucket, is-chunk, marked}
+use Rattle.rules.specs.Memory.{Segment, bucket, is-chunk, marked}
 use Rattle.rules.specs.Counts.{Counts, counts-of, count-at, recounted}
 use Rattle.rules.proofs.Chunks.{same-bucket}
 use Rattle.rules.proofs.Marks.{mark-chunk, mark-bucket}

@@ -3,19 +3,15 @@ use Prim.Native.Nat.{ℕ}
 use mathlib.Core.Path.{_≡_}
 use mathlib.Core.List.{List, [], _∷_}
 use mathlib.Core.Bool.{Bool, true, false}
-use Rattle.std.specs.declared.option.Option.{Option}
 use Rattle.std.specs.declared.option.Option.the-variants.{Some, None}
-use Rattle.std.specs.declared.result.Result.{Result}
-use Rattle.std.specs.declared.result.Result.the-variants.{Ok, Err}
+use Rattle.std.specs.declared.result.Result.the-variants.{Ok}
 use Rattle.elementary.specs.declared.port_id.PortId.{PortId}
 use Rattle.elementary.specs.declared.pointer_offset.PointerOffset.{PointerOffset}
 use Rattle.elementary.specs.declared.port_list.SubscriberDetails.{SubscriberDetails}
-use Rattle.elementary.specs.declared.link.LinkDetails.{LinkDetails}
-use Rattle.elementary.specs.declared.link.Standing.the-variants.{NeverAttached, Attached}
+use Rattle.elementary.specs.declared.link.Standing.the-variants.{Attached}
 use Rattle.elementary.specs.declared.link.Mark.{Mark}
 use Rattle.elementary.specs.declared.link.Mark.the-variants.{Sound, Broken}
 use Rattle.elementary.specs.declared.settings.PublisherSettings.{PublisherSettings}
-use Rattle.elementary.specs.declared.settings.SubscriberSettings.{SubscriberSettings}
 use Rattle.elementary.specs.declared.backpressure.BackpressureStrategy.the-variants as strategy
 use Rattle.elementary.specs.declared.backpressure.DegradationAction.the-variants.{Ignore}
 use Rattle.elementary.specs.declared.error.AllocationError.the-variants.{OutOfMemory}
@@ -25,8 +21,8 @@ use Rattle.rules.specs.Counts.{Chunks, released}
 use Rattle.rules.specs.Pools.{by}
 use Rattle.rules.specs.Links.{Link, send-answer, send-after}
 use Rattle.rules.specs.Bank.{Places, at}
-use Rattle.rules.specs.Publisher.{Connection, Pub, Side, connected, worse, Going, Rounds, Handler}
-use Rattle.rules.specs.Subscriber.{Half, Sub, Translation, receive-answer}
+use Rattle.rules.specs.Publisher.{Connection, Pub, connected, worse, Going, Rounds, Handler}
+use Rattle.rules.specs.Subscriber.{Half, Translation, receive-answer}
 
 -- three buckets of 64 bytes, in segment 0
 abbrev pub first-chunk : PointerOffset

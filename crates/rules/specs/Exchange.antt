@@ -2,9 +2,9 @@
 use Prim.Native.Nat.{ℕ, _+_}
 use mathlib.Core.Path.{_≡_}
 use mathlib.Core.List.{List, [], _∷_, _++_, map}
-use mathlib.Core.Bool.{Bool, true, false, not, cond, _&&_, _||_}
-use lib.Dec.{eqb, ltb, leb}
-use lib.ListN.{length, getD, set, replicate}
+use mathlib.Core.Bool.{Bool, true, false, cond, _&&_}
+use lib.Dec.{leb}
+use lib.ListN.{getD, replicate}
 use Rattle.std.specs.Of.Vec.{vec-items}
 use Rattle.std.specs.Options.{isSome, Cases}
 use Rattle.std.specs.declared.option.Option.{Option}
@@ -13,12 +13,10 @@ use Rattle.std.specs.declared.result.Result.{Result}
 use Rattle.std.specs.declared.result.Result.the-variants.{Ok, Err}
 use Rattle.container.specs.Queue.{has}
 use Rattle.elementary.specs.Ids.{same-port, same-chunk}
-use Rattle.elementary.specs.Refusals.{number-alone, loan-refusal, fill-refusal, send-refusal, return-refusal, close-refusal, receive-refusal, release-refusal, read-refusal, update-refusal, settings-refusal}
+use Rattle.elementary.specs.Refusals.{loan-refusal, fill-refusal, send-refusal, return-refusal, close-refusal, receive-refusal, release-refusal, read-refusal, update-refusal, settings-refusal}
 use Rattle.elementary.specs.declared.port_id.PortId.{PortId}
 use Rattle.elementary.specs.declared.pointer_offset.PointerOffset.{PointerOffset}
 use Rattle.elementary.specs.declared.chunk_details.ChunkDetails.{ChunkDetails}
-use Rattle.elementary.specs.declared.port_list.SubscriberDetails.{SubscriberDetails}
-use Rattle.elementary.specs.declared.port_list.PublisherDetails.{PublisherDetails}
 use Rattle.elementary.specs.declared.link.Mark.{Mark}
 use Rattle.elementary.specs.declared.link.Mark.the-variants.{Sound, Corrupted, Broken}
 use Rattle.elementary.specs.declared.error.Refusal.{Refusal}

@@ -1,5 +1,5 @@
 -- A publisher: its records, and what each of its calls makes of them and of the bank.
-use Prim.Native.Nat.{ℕ, _+_, _-_, _^_, min}
+use Prim.Native.Nat.{ℕ, _+_, _-_, _^_}
 use mathlib.Core.Path.{_≡_}
 use mathlib.Core.List.{List, [], _∷_, _++_, map}
 use mathlib.Core.Bool.{Bool, true, false, not, cond, _&&_, _||_}
@@ -7,7 +7,7 @@ use lib.Dec.{eqb, ltb}
 use lib.ListN.{length, getD, set, drop}
 use Rattle.std.specs.Iters.{folded}
 use Rattle.std.specs.Results.{errPart}
-use Rattle.std.specs.Options.{isSome, mapped, Cases}
+use Rattle.std.specs.Options.{mapped, Cases}
 use Rattle.std.specs.shelf.Sorted.{Shuffled}
 use Rattle.std.specs.declared.option.Option.{Option}
 use Rattle.std.specs.declared.option.Option.the-variants.{Some, None}

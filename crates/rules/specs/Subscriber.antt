@@ -6,7 +6,6 @@ use mathlib.Core.Bool.{Bool, true, false, not, cond, _&&_, _||_}
 use lib.Dec.{eqb, ltb}
 use lib.ListN.{length, getD, set, drop, replicate}
 use Rattle.std.specs.Holes.{removed}
-use Rattle.std.specs.Iters.{folded}
 use Rattle.std.specs.Options.{isSome, mapped}
 use Rattle.std.specs.declared.option.Option.{Option}
 use Rattle.std.specs.declared.option.Option.the-variants.{Some, None}
@@ -34,7 +33,7 @@ use Rattle.elementary.specs.declared.error.ZeroCopyReleaseError.{ZeroCopyReleas
 use Rattle.elementary.specs.declared.error.ZeroCopyReleaseError.the-variants as releasing
 use Rattle.elementary.specs.declared.error.ZeroCopyCreationError.{ZeroCopyCreationError}
 use Rattle.rules.specs.Pools.{by}
-use Rattle.rules.specs.Bank.{Places, at, receives, received, release-faults, given-back, create-fault, May-take, created, detached, has-data, borrow-count, first}
+use Rattle.rules.specs.Bank.{Places, receives, received, release-faults, given-back, create-fault, May-take, created, detached, has-data, borrow-count, first}
 use Rattle.rules.specs.Publisher.{Goes, first-of, is-seen}
 
 -- a stored connection: with whom, at which place of the bank, the cycle in which a list named it last, and the segments of its view
