@@ -37,26 +37,26 @@ other-count : (gs : List Segment) (cs : Counts) (o x n : ℕ) → is-chunk gs o 
     → getD (counts-of (set cs (segment o) (set (counts-of cs (segment o)) (bucket gs o) n)) (segment x)) (bucket gs x) 0 ≡ getD (counts-of cs (segment x)) (bucket gs x) 0
 other-count gs cs o x n co cx ne =
     ⊎-elim
-      (λ same. let apart : bucket gs x ≡ bucket gs o → ⊥ = λ b. ne (sym (same-bucket gs x o cx co same b)) in
-          ⊎-elim
-            (λ lt. ap (λ k. getD (counts-of (set cs (segment o) (set (counts-of cs (segment o)) (bucket gs o) n)) k) (bucket gs x) 0) same
-              ∙ (ap (λ ns. getD ns (bucket gs x) 0) (getD-set-same cs (segment o) _ [] lt)
-              ∙ (getD-set-other (counts-of cs (segment o)) (bucket gs o) (bucket gs x) n 0 apart
-              ∙ ap (λ k. getD (counts-of cs k) (bucket gs x) 0) (sym same))))
-            (λ past. ap (λ ds. getD (counts-of ds (segment x)) (bucket gs x) 0) (set-past cs (segment o) _ past))
-            (cases-lt (segment o) (length cs)))
-      (λ other. ap (λ ns. getD ns (bucket gs x) 0) (row-other cs (segment o) (segment x) _ other))
-      (cases-eq (segment x) (segment o))
+    (λ same. let apart : bucket gs x ≡ bucket gs o → ⊥ = λ b. ne (sym (same-bucket gs x o cx co same b)) in
+    ⊎-elim
+    (λ lt. ap (λ k. getD (counts-of (set cs (segment o) (set (counts-of cs (segment o)) (bucket gs o) n)) k) (bucket gs x) 0) same
+    ∙ (ap (λ ns. getD ns (bucket gs x) 0) (getD-set-same cs (segment o) _ [] lt)
+    ∙ (getD-set-other (counts-of cs (segment o)) (bucket gs o) (bucket gs x) n 0 apart
+    ∙ ap (λ k. getD (counts-of cs k) (bucket gs x) 0) (sym same))))
+    (λ past. ap (λ ds. getD (counts-of ds (segment x)) (bucket gs x) 0) (set-past cs (segment o) _ past))
+    (cases-lt (segment o) (length cs)))
+    (λ other. ap (λ ns. getD ns (bucket gs x) 0) (row-other cs (segment o) (segment x) _ other))
+    (cases-eq (segment x) (segment o))
 
 pub recount-other : (gs : List Segment) (cs : Counts) (o x n : ℕ) → (o ≡ x → ⊥) → count-at gs (recounted gs cs o n) x ≡ count-at gs cs x
 recount-other gs cs o x n ne =
     ⊎-elim
-      (λ co. ⊎-elim
-        (λ cx. cond-true _ _ _ cx ∙ (ap (λ ds. getD (counts-of ds (segment x)) (bucket gs x) 0) (cond-true _ _ _ co) ∙ (other-count gs cs o x n co cx ne ∙ sym (cond-true _ _ _ cx))))
-        (λ no. cond-false _ _ _ no ∙ sym (cond-false _ _ _ no))
-        (cases-bool (is-chunk gs x)))
-      (λ no. ap (λ ds. count-at gs ds x) (cond-false _ _ _ no))
-      (cases-bool (is-chunk gs o))
+    (λ co. ⊎-elim
+    (λ cx. cond-true _ _ _ cx ∙ (ap (λ ds. getD (counts-of ds (segment x)) (bucket gs x) 0) (cond-true _ _ _ co) ∙ (other-count gs cs o x n co cx ne ∙ sym (cond-true _ _ _ cx))))
+    (λ no. cond-false _ _ _ no ∙ sym (cond-false _ _ _ no))
+    (cases-bool (is-chunk gs x)))
+    (λ no. ap (λ ds. count-at gs ds x) (cond-false _ _ _ no))
+    (cases-bool (is-chunk gs o))
 
 -- marks change no count
 pub count-marked : (gs : List Segment) (cs : Counts) (o : ℕ) (t : Bool) (x : ℕ) → count-at (marked gs o t) cs x ≡ count-at gs cs x

@@ -54,9 +54,9 @@ pub record Books (loans hand : List PointerOffset) (p : Pub) (ps : Places) : Typ
 pub record Moves-keep-the-books : Type 0 where
   -- one holder more
   pub holding : (loans hand : List PointerOffset) (p : Pub) (ps : Places) (o : PointerOffset) → Books loans hand p ps
-    → 0 < count-of p (o .value) → count-of p (o .value) < 10 → times loans (o .value) ≡ 0 → Books loans (o ∷ hand) (hold p o) ps
+      → 0 < count-of p (o .value) → count-of p (o .value) < 10 → times loans (o .value) ≡ 0 → Books loans (o ∷ hand) (hold p o) ps
   -- one holder less: the last one frees the bucket
   pub letting-go : (loans hand : List PointerOffset) (p : Pub) (ps : Places) (o : PointerOffset) → Books loans (o ∷ hand) p ps → Books loans hand (let-go p o) ps
   -- a holder that becomes another kind of holder
   pub moving : (loans hand hand′ : List PointerOffset) (p : Pub) (ps qs : Places)
-    → ((o : ℕ) → held-by (p .id) qs o + times hand′ o ≡ held-by (p .id) ps o + times hand o) → Books loans hand p ps → Books loans hand′ p qs
+      → ((o : ℕ) → held-by (p .id) qs o + times hand′ o ≡ held-by (p .id) ps o + times hand o) → Books loans hand p ps → Books loans hand′ p qs

@@ -158,7 +158,7 @@ after-links s ps = record { pubs = s .pubs; subs = s .subs; links = ps; rigged =
 
 -- EVERY CALL
 
--- it leaves open only a memory's bucket, a link's place, the order at detaching and what a turn moves
+-- open is only which bucket a memory gives, where a new link stands, in which order a detached link's chunks come, and what a turn moves
 abbrev pub Step : State → Call → Answer → State → Type 0
 Step s (Loan id size align) a t = AtPub s id (λ g h. (r : Result PointerOffset LoanError) × publisher.Loans g size align r h × (a ≡ told-loan r)) a t
 Step s (Fill id o bytes) a t =

@@ -59,7 +59,7 @@ never NeverAttached = true
 never Attached = false
 never Gone = false
 
--- the standing and the event together decide the next standing: an end that is gone does not come back
+-- how an end stands after an event: one that is gone does not come back
 abbrev pub next-standing : Standing → Event → Standing
 next-standing NeverAttached Attach = Attached
 next-standing NeverAttached Detach = NeverAttached

@@ -29,7 +29,7 @@ pub record Mem : Type 0 where
   pub largest : ℕ
   -- every bucket ends within it
   pub capacity : ℕ
-  -- for each size, whether a further segment can be made
+  -- whether it could grow by a segment for a request of that size
   pub grows : ℕ → Bool
 
 abbrev pub with-segments : Mem → List Segment → Mem
