@@ -1,4 +1,2 @@
 // A bounded queue whose memory is taken once, when it is made.
 pub mod queue;
-#[cfg(test)]
-mod tests;
