@@ -223,7 +223,7 @@ letting-go loans hand p ps o k =
 
 -- ONE HOLDER FOR ANOTHER
 
-moving : (loans hand hand′ : List PointerOffset) (p : Pub) (ps qs : Places)
+pub moving : (loans hand hand′ : List PointerOffset) (p : Pub) (ps qs : Places)
     → ((o : ℕ) → held-by (p .id) qs o + times hand′ o ≡ held-by (p .id) ps o + times hand o) → Books loans hand p ps → Books loans hand′ p qs
 moving loans hand hand′ p ps qs same k = record {
   ledger = k .ledger;

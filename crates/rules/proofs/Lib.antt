@@ -8,3 +8,4 @@ pub mod Halves
 pub mod Worked
 pub mod Recounts
 pub mod Keep
+pub mod Reclaims

@@ -2,11 +2,12 @@
 use Prim.Native.Nat.{ℕ, _+_, _≤_, _<_}
 use mathlib.Core.Path.{_≡_}
 use mathlib.Core.List.{List, _∷_}
-use mathlib.Core.Bool.{Bool, cond, _&&_}
+use mathlib.Core.Bool.{Bool, true, false, cond, _&&_}
 use lib.Dec.{ltb}
 use lib.ListN.{length, getD}
 use Rattle.std.specs.shelf.Lists.{sumBy}
 use Rattle.std.specs.declared.option.Option.{Option}
+use Rattle.std.specs.declared.option.Option.the-variants.{Some, None}
 use Rattle.elementary.specs.Ids.{same-port}
 use Rattle.elementary.specs.declared.port_id.PortId.{PortId}
 use Rattle.elementary.specs.declared.pointer_offset.PointerOffset.{PointerOffset}
@@ -14,8 +15,8 @@ use Rattle.rules.specs.Memory.{segment-at, taken-at}
 use Rattle.rules.specs.Counts.{Chunks, counts-of, count-at}
 use Rattle.rules.specs.Pools.{by}
 use Rattle.rules.specs.Links.{Link, attached, listed, times}
-use Rattle.rules.specs.Bank.{Places}
-use Rattle.rules.specs.Publisher.{Pub, hold, let-go}
+use Rattle.rules.specs.Bank.{Places, at}
+use Rattle.rules.specs.Publisher.{Connection, Pub, Side, slot-at, hold, let-go, reclaimed-all, fill-after, return-after}
 
 -- a link of a publisher bears its id, and its sender end is attached
 abbrev pub mine : PortId → Link → Bool
@@ -60,3 +61,22 @@ pub record Moves-keep-the-books : Type 0 where
   -- a holder that becomes another kind of holder
   pub moving : (loans hand hand′ : List PointerOffset) (p : Pub) (ps qs : Places)
       → ((o : ℕ) → held-by (p .id) qs o + times hand′ o ≡ held-by (p .id) ps o + times hand o) → Books loans hand p ps → Books loans hand′ p qs
+
+-- CALLS
+
+-- whether a place has a link of the publisher
+abbrev pub owns : PortId → Option Link → Bool
+owns id x = by x false (mine id)
+
+-- each slot's connection has a link of the publisher at its place
+pub record Wired (p : Pub) (ps : Places) : Type 0 where
+  pub own : (i : ℕ) (c : Connection) → slot-at p i ≡ Some c → owns (p .id) (at ps (c .place)) ≡ true
+
+-- reclaiming, filling and returning keep the books, whatever else is in hand
+pub record Calls-keep-the-books : Type 0 where
+  pub reclaiming : (loans hand : List PointerOffset) (g : Side) → Wired (g .port) (g .links) → Books loans hand (g .port) (g .links)
+    → Books loans hand (reclaimed-all g .port) (reclaimed-all g .links) × Wired (reclaimed-all g .port) (reclaimed-all g .links)
+  pub filling : (hand : List PointerOffset) (p : Pub) (ps : Places) (o : PointerOffset) (source : List ℕ) → Books (p .loans) hand p ps
+    → Books (fill-after p o source .loans) hand (fill-after p o source) ps
+  pub returning : (hand : List PointerOffset) (p : Pub) (ps : Places) (o : PointerOffset) → Books (p .loans) hand p ps
+    → Books (return-after p o .loans) hand (return-after p o) ps
