@@ -34,7 +34,7 @@ count-room c o l e =
     let four : segment o < 4 = omega (arith, chunk-there gs o e, l .segments) in
     omega (arith, chunk-bucket gs o e .1, l .buckets (segment o), l .room (segment o) four)
 
-ledger-recounted : (c : Chunks) (o n : ℕ) → Ledger c → is-chunk (c .mem .segments) o ≡ true → Ledger (record { mem = c .mem; counts = recounted (c .mem .segments) (c .counts) o n })
+pub ledger-recounted : (c : Chunks) (o n : ℕ) → Ledger c → is-chunk (c .mem .segments) o ≡ true → Ledger (record { mem = c .mem; counts = recounted (c .mem .segments) (c .counts) o n })
 ledger-recounted c o n l e =
     subst (λ ds. Ledger (record { mem = c .mem; counts = ds })) (sym (cond-true _ _ _ e))
     (record {
@@ -67,7 +67,7 @@ ledger-recounted c o n l e =
     room : b < length (counts-of cs (segment o))
     room = count-room c o l e
 
-ledger-marked : (c : Chunks) (o : ℕ) (t : Bool) → Ledger c → Ledger (record { mem = with-segments (c .mem) (marked (c .mem .segments) o t); counts = c .counts })
+pub ledger-marked : (c : Chunks) (o : ℕ) (t : Bool) → Ledger c → Ledger (record { mem = with-segments (c .mem) (marked (c .mem .segments) o t); counts = c .counts })
 ledger-marked c o t l =
     let gs = c .mem .segments in
     let n = length-set gs (segment o) (remarked (home gs o) (bucket gs o) t) in
@@ -80,7 +80,7 @@ ledger-marked c o t l =
 
 -- COUNTS
 
-held-count : (c : Chunks) (o x : ℕ) → Ledger c → is-chunk (c .mem .segments) o ≡ true → count-at (c .mem .segments) (c .counts) o < 10
+pub held-count : (c : Chunks) (o x : ℕ) → Ledger c → is-chunk (c .mem .segments) o ≡ true → count-at (c .mem .segments) (c .counts) o < 10
     → count-at (c .mem .segments) (counted (c .mem .segments) (c .counts) o) x ≡ count-at (c .mem .segments) (c .counts) x + cond (eqb o x) 1 0
 held-count c o x l e few =
     let gs = c .mem .segments in

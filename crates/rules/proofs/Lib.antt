@@ -9,3 +9,4 @@ pub mod Worked
 pub mod Recounts
 pub mod Keep
 pub mod Reclaims
+pub mod Lends

@@ -22,7 +22,7 @@ use Rattle.rules.specs.Pools.{by}
 use Rattle.rules.specs.Links.{Link, attached, listed, times}
 use Rattle.rules.specs.Bank.{Places, at, changed}
 use Rattle.rules.specs.Publisher.{Connection, Pub, Side, slot-at, with-loans, let-go, let-go-all, returned-at, cleared, emptied, reclaimed-all, is-live, unloaned, fill-after, return-after}
-use Rattle.rules.specs.Books.{mine, held-here, held-by, count-of, Books, owns, Wired, Calls-keep-the-books}
+use Rattle.rules.specs.Books.{mine, held-here, held-by, count-of, Books, owns, Wired}
 use Rattle.rules.proofs.Offsets.{one, times-cons, times-append, without-times}
 use Rattle.rules.proofs.Banks.{listed-times}
 use Rattle.rules.proofs.Keep.{letting-go, moving}
@@ -79,12 +79,17 @@ all-slots : (os : List PointerOffset) (p : Pub) → let-go-all p os .slots ≡ p
 all-slots [] p = refl
 all-slots (o ∷ os) p = all-slots os (let-go p o)
 
+all-loans : (os : List PointerOffset) (p : Pub) → let-go-all p os .loans ≡ p .loans
+all-loans [] p = refl
+all-loans (o ∷ os) p = all-loans os (let-go p o)
+
 -- RECLAIMING
 
 record Kept (loans hand : List PointerOffset) (g h : Side) : Type 0 where
   books : Books loans hand (h .port) (h .links)
   id : h .port .id ≡ g .port .id
   slots : h .port .slots ≡ g .port .slots
+  loans-same : h .port .loans ≡ g .port .loans
   owned : (j : ℕ) → owns (g .port .id) (at (h .links) j) ≡ owns (g .port .id) (at (g .links) j)
 
 emptied-kept : (loans hand : List PointerOffset) (g : Side) (c : Connection) → owns (g .port .id) (at (g .links) (c .place)) ≡ true
@@ -100,12 +105,13 @@ emptied-kept loans hand g c e k =
       books = all-go loans hand (changed ps i cleared) os p (moving loans hand (os ++ hand) p ps (changed ps i cleared) same k);
       id = all-id os p;
       slots = all-slots os p;
+      loans-same = all-loans os p;
       owned = λ j. owns-changed cleared (λ _ _. refl) (p .id) ps i j e }
 
 walk : (loans hand : List PointerOffset) (xs : List (Option Connection)) (g : Side)
     → ((i : ℕ) (c : Connection) → getD xs i None ≡ Some c → owns (g .port .id) (at (g .links) (c .place)) ≡ true)
     → Books loans hand (g .port) (g .links) → Kept loans hand g (folded emptied g xs)
-walk loans hand [] g own k = record { books = k; id = refl; slots = refl; owned = λ _. refl }
+walk loans hand [] g own k = record { books = k; id = refl; slots = refl; loans-same = refl; owned = λ _. refl }
 walk loans hand (None ∷ xs) g own k = walk loans hand xs g (λ i. own (suc i)) k
 walk loans hand (Some c ∷ xs) g own k =
     let one-kept = emptied-kept loans hand g c (own 0 c refl) k in
@@ -116,19 +122,28 @@ walk loans hand (Some c ∷ xs) g own k =
       books = rest .books;
       id = rest .id ∙ one-kept .id;
       slots = rest .slots ∙ one-kept .slots;
+      loans-same = rest .loans-same ∙ one-kept .loans-same;
       owned = λ j. ap (λ id. owns id (at (folded emptied h xs .links) j)) (sym (one-kept .id)) ∙ (rest .owned j ∙ (ap (λ id. owns id (at (h .links) j)) (one-kept .id) ∙ one-kept .owned j)) }
 
-reclaiming : (loans hand : List PointerOffset) (g : Side) → Wired (g .port) (g .links) → Books loans hand (g .port) (g .links)
-    → Books loans hand (reclaimed-all g .port) (reclaimed-all g .links) × Wired (reclaimed-all g .port) (reclaimed-all g .links)
-reclaiming loans hand g w k =
+-- what stands after all links were emptied
+pub record Reclaimed (loans hand : List PointerOffset) (g h : Side) : Type 0 where
+  pub books : Books loans hand (h .port) (h .links)
+  pub wired : Wired (h .port) (h .links)
+  pub loans-same : h .port .loans ≡ g .port .loans
+
+pub reclaimed : (loans hand : List PointerOffset) (g : Side) → Wired (g .port) (g .links) → Books loans hand (g .port) (g .links) → Reclaimed loans hand g (reclaimed-all g)
+reclaimed loans hand g w k =
     let r = walk loans hand (g .port .slots) g (w .own) k in
-    (r .books, record {
-      own = λ i c e. ap (λ id. owns id (at (reclaimed-all g .links) (c .place))) (r .id)
-        ∙ (r .owned (c .place) ∙ w .own i c (sym (ap (λ xs. getD xs i None) (r .slots)) ∙ e)) })
+    record {
+      books = r .books;
+      wired = record {
+        own = λ i c e. ap (λ id. owns id (at (reclaimed-all g .links) (c .place))) (r .id)
+          ∙ (r .owned (c .place) ∙ w .own i c (sym (ap (λ xs. getD xs i None) (r .slots)) ∙ e)) };
+      loans-same = r .loans-same }
 
 -- FILLING AND RETURNING
 
-filling : (hand : List PointerOffset) (p : Pub) (ps : Places) (o : PointerOffset) (source : List ℕ) → Books (p .loans) hand p ps
+pub filling : (hand : List PointerOffset) (p : Pub) (ps : Places) (o : PointerOffset) (source : List ℕ) → Books (p .loans) hand p ps
     → Books (fill-after p o source .loans) hand (fill-after p o source) ps
 filling hand p ps o source k = record { ledger = k .ledger; balance = k .balance; free = k .free; alone = k .alone; once = k .once }
 
@@ -148,13 +163,10 @@ ended : (hand : List PointerOffset) (p : Pub) (ps : Places) (o : PointerOffset) 
     → Books (unloaned p o .loans) hand (unloaned p o) ps
 ended hand p ps o live k = letting-go (without same-chunk (p .loans) o) hand (with-loans p (without same-chunk (p .loans) o)) ps o (in-hand hand p ps o live k)
 
-returning : (hand : List PointerOffset) (p : Pub) (ps : Places) (o : PointerOffset) → Books (p .loans) hand p ps
+pub returning : (hand : List PointerOffset) (p : Pub) (ps : Places) (o : PointerOffset) → Books (p .loans) hand p ps
     → Books (return-after p o .loans) hand (return-after p o) ps
 returning hand p ps o k =
     ⊎-elim
       (λ yes. subst (λ q. Books (q .loans) hand q ps) (sym (cond-true _ (unloaned p o) p yes)) (ended hand p ps o yes k))
       (λ no. subst (λ q. Books (q .loans) hand q ps) (sym (cond-false _ (unloaned p o) p no)) k)
       (cases-bool (is-live p o))
-
-pub calls-keep-the-books : Calls-keep-the-books
-calls-keep-the-books = record { reclaiming = reclaiming; filling = filling; returning = returning }

@@ -8,15 +8,17 @@ use lib.ListN.{length, getD}
 use Rattle.std.specs.shelf.Lists.{sumBy}
 use Rattle.std.specs.declared.option.Option.{Option}
 use Rattle.std.specs.declared.option.Option.the-variants.{Some, None}
+use Rattle.std.specs.declared.result.Result.{Result}
 use Rattle.elementary.specs.Ids.{same-port}
 use Rattle.elementary.specs.declared.port_id.PortId.{PortId}
 use Rattle.elementary.specs.declared.pointer_offset.PointerOffset.{PointerOffset}
-use Rattle.rules.specs.Memory.{segment-at, taken-at}
+use Rattle.elementary.specs.declared.error.LoanError.{LoanError}
+use Rattle.rules.specs.Memory.{Sound, segment-at, taken-at}
 use Rattle.rules.specs.Counts.{Chunks, counts-of, count-at}
 use Rattle.rules.specs.Pools.{by}
 use Rattle.rules.specs.Links.{Link, attached, listed, times}
 use Rattle.rules.specs.Bank.{Places, at}
-use Rattle.rules.specs.Publisher.{Connection, Pub, Side, slot-at, hold, let-go, reclaimed-all, fill-after, return-after}
+use Rattle.rules.specs.Publisher.{Connection, Pub, Side, slot-at, hold, let-go, reclaimed-all, Loans, fill-after, return-after}
 
 -- a link of a publisher bears its id, and its sender end is attached
 abbrev pub mine : PortId → Link → Bool
@@ -72,10 +74,13 @@ owns id x = by x false (mine id)
 pub record Wired (p : Pub) (ps : Places) : Type 0 where
   pub own : (i : ℕ) (c : Connection) → slot-at p i ≡ Some c → owns (p .id) (at ps (c .place)) ≡ true
 
--- reclaiming, filling and returning keep the books, whatever else is in hand
+-- reclaiming, loaning, filling and returning keep the books, whatever else is in hand
 pub record Calls-keep-the-books : Type 0 where
   pub reclaiming : (loans hand : List PointerOffset) (g : Side) → Wired (g .port) (g .links) → Books loans hand (g .port) (g .links)
     → Books loans hand (reclaimed-all g .port) (reclaimed-all g .links) × Wired (reclaimed-all g .port) (reclaimed-all g .links)
+  pub loaning : (hand : List PointerOffset) (limit : ℕ) (g : Side) (asked align : ℕ) (r : Result PointerOffset LoanError) (h : Side)
+    → Loans g asked align r h → Sound limit (h .port .chunks .mem) → Wired (g .port) (g .links) → Books (g .port .loans) hand (g .port) (g .links)
+    → Books (h .port .loans) hand (h .port) (h .links) × Wired (h .port) (h .links)
   pub filling : (hand : List PointerOffset) (p : Pub) (ps : Places) (o : PointerOffset) (source : List ℕ) → Books (p .loans) hand p ps
     → Books (fill-after p o source .loans) hand (fill-after p o source) ps
   pub returning : (hand : List PointerOffset) (p : Pub) (ps : Places) (o : PointerOffset) → Books (p .loans) hand p ps

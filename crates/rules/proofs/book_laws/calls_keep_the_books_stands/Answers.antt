@@ -1,4 +1,4 @@
-use Rattle.rules.proofs.Reclaims.{calls-keep-the-books}
+use Rattle.rules.proofs.Lends.{calls-keep-the-books}
 use Rattle.rules.proofs.book_laws.calls_keep_the_books_stands.Needs as need
 
 pub returns : need.returns
