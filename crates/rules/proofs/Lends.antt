@@ -20,12 +20,12 @@ use Rattle.rules.specs.Counts.{Counts, Chunks, counts-of, count-at, raised, bo
 use Rattle.rules.specs.Links.{times}
 use Rattle.rules.specs.Bank.{Places}
 use Rattle.rules.specs.Publisher.{Pub, Side, with-chunks, with-loans, reclaimed-all, lent, Allots, may-loan, Loans, Goes}
-use Rattle.rules.specs.Books.{held-by, count-of, Ledger, Books, Wired, Calls-keep-the-books}
+use Rattle.rules.specs.Books.{held-by, count-of, Ledger, Books, Wired, In-order}
 use Rattle.rules.proofs.Marks.{mark-count, mark-chunk, mark-same, mark-other}
 use Rattle.rules.proofs.Offsets.{one, times-push}
 use Rattle.rules.proofs.Recounts.{count-marked}
 use Rattle.rules.proofs.Keep.{ledger-recounted, ledger-marked, held-count}
-use Rattle.rules.proofs.Reclaims.{Reclaimed, reclaimed, filling, returning}
+use Rattle.rules.proofs.Reclaims.{reclaimed-loans}
 
 -- A FREE BUCKET IS TAKEN
 
@@ -165,7 +165,7 @@ growing-by loans hand p ps n start size count e four fair k =
 -- THE LOAN
 
 abbrev Fine : List PointerOffset → Side → Type 0
-Fine hand g = Books (g .port .loans) hand (g .port) (g .links) × Wired (g .port) (g .links)
+Fine hand g = In-order (g .port .loans) hand g
 
 -- the books do not look at the list of loans that the publisher keeps
 reloaned : (loans hand : List PointerOffset) (p : Pub) (ps : Places) (l : List PointerOffset) → Books loans hand p ps → Books loans hand (with-loans p l) ps
@@ -188,41 +188,32 @@ lending : (hand : List PointerOffset) (limit : ℕ) (g : Side) (asked : ℕ) (a 
     → Allocates (g .port .chunks .mem) asked a n → Sound limit (lent g a n .port .chunks .mem) → Fine hand g → Fine hand (lent g a n)
 lending hand limit g asked (Err e) n al s k = k
 lending hand limit g asked (Ok o) n (inl t) s k =
-    (reloaned _ hand (took (g .port) n o) (g .links) (g .port .loans ++ o ∷ []) (taking (g .port .loans) hand (g .port) (g .links) o asked n t (k .0)), record { own = k .1 .own })
+    record {
+      books = reloaned _ hand (took (g .port) n o) (g .links) (g .port .loans ++ o ∷ []) (taking (g .port .loans) hand (g .port) (g .links) o asked n t (k .books));
+      wired = record { own = k .wired .own; apart = k .wired .apart } }
 lending hand limit g asked (Ok o) n (inr (m, grown, at, t)) s k =
     let p = g .port in
     let small = new-count limit m (p .chunks .mem .segments) (o .value) (grown .start) (grown .size) (grown .count) (grown .segments) (subst (Sound limit) (t .after) s) in
     let more : Books (p .loans) hand (with-mem p m) (g .links)
-             = growing-by (p .loans) hand p (g .links) m (grown .start) (grown .size) (grown .count) (grown .segments) (small .0) (small .1) (k .0) in
-    (reloaned _ hand (took p n o) (g .links) (p .loans ++ o ∷ []) (taking (p .loans) hand (with-mem p m) (g .links) o asked n t more), record { own = k .1 .own })
+             = growing-by (p .loans) hand p (g .links) m (grown .start) (grown .size) (grown .count) (grown .segments) (small .0) (small .1) (k .books) in
+    record {
+      books = reloaned _ hand (took p n o) (g .links) (p .loans ++ o ∷ []) (taking (p .loans) hand (with-mem p m) (g .links) o asked n t more);
+      wired = record { own = k .wired .own; apart = k .wired .apart } }
 
 allotting : (hand : List PointerOffset) (limit : ℕ) (g : Side) (asked align : ℕ) (r : Result PointerOffset LoanError) (h : Side)
     → Allots g asked align r h → Sound limit (h .port .chunks .mem) → Fine hand g → Fine hand h
 allotting hand limit g asked align r h (a, (n, _, al, _, e)) s k =
     subst (Fine hand) (sym e) (lending hand limit g asked a n al (subst (λ (x : Side). Sound limit (x .port .chunks .mem)) e s) k)
 
-goes : {A B C : Type 0} (t : Bool) → Goes t A B → (A → C) → (B → C) → C
+pub goes : {A B C : Type 0} (t : Bool) → Goes t A B → (A → C) → (B → C) → C
 goes true w f g = f w
 goes false w f g = g w
 
-reclaiming-first : (hand : List PointerOffset) (g : Side) → Fine hand g → Fine hand (reclaimed-all g)
-reclaiming-first hand g k =
-    let r = reclaimed (g .port .loans) hand g (k .1) (k .0) in
-    (subst (λ l. Books l hand (reclaimed-all g .port) (reclaimed-all g .links)) (sym (r .loans-same)) (r .books), r .wired)
-
-loaning : (hand : List PointerOffset) (limit : ℕ) (g : Side) (asked align : ℕ) (r : Result PointerOffset LoanError) (h : Side)
-    → Loans g asked align r h → Sound limit (h .port .chunks .mem) → Wired (g .port) (g .links) → Books (g .port .loans) hand (g .port) (g .links)
-    → Books (h .port .loans) hand (h .port) (h .links) × Wired (h .port) (h .links)
-loaning hand limit g asked align r h l s w k =
+pub loaning : (hand : List PointerOffset) (limit : ℕ) (g : Side) (asked align : ℕ) (r : Result PointerOffset LoanError) (h : Side)
+    → Loans g asked align r h → Sound limit (h .port .chunks .mem) → In-order (g .port .loans) hand g → In-order (h .port .loans) hand h
+loaning hand limit g asked align r h l s k =
     goes (g .port .closed) l
-      (λ shut. subst (Fine hand) (sym (shut .1)) (k, w))
+      (λ shut. subst (Fine hand) (sym (shut .1)) k)
       (λ ready. goes (may-loan (g .port)) ready
-        (λ allots. allotting hand limit (reclaimed-all g) asked align r h allots s (reclaiming-first hand g (k, w)))
-        (λ full. subst (Fine hand) (sym (full .1)) (reclaiming-first hand g (k, w))))
-
-pub calls-keep-the-books : Calls-keep-the-books
-calls-keep-the-books = record {
-  reclaiming = λ loans hand g w k. let r = reclaimed loans hand g w k in (r .books, r .wired);
-  loaning = loaning;
-  filling = filling;
-  returning = returning }
+        (λ allots. allotting hand limit (reclaimed-all g) asked align r h allots s (reclaimed-loans hand g k))
+        (λ full. subst (Fine hand) (sym (full .1)) (reclaimed-loans hand g k)))

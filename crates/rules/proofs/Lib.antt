@@ -10,3 +10,4 @@ pub mod Recounts
 pub mod Keep
 pub mod Reclaims
 pub mod Lends
+pub mod Removes

@@ -22,18 +22,18 @@ use Rattle.rules.specs.Pools.{by}
 use Rattle.rules.specs.Links.{Link, attached, listed, times}
 use Rattle.rules.specs.Bank.{Places, at, changed}
 use Rattle.rules.specs.Publisher.{Connection, Pub, Side, slot-at, with-loans, let-go, let-go-all, returned-at, cleared, emptied, reclaimed-all, is-live, unloaned, fill-after, return-after}
-use Rattle.rules.specs.Books.{mine, held-here, held-by, count-of, Books, owns, Wired}
+use Rattle.rules.specs.Books.{mine, held-here, held-by, count-of, Books, owns, Wired, In-order, beside}
 use Rattle.rules.proofs.Offsets.{one, times-cons, times-append, without-times}
 use Rattle.rules.proofs.Banks.{listed-times}
 use Rattle.rules.proofs.Keep.{letting-go, moving}
 
 -- ONE PLACE
 
-owned-there : (id : PortId) (ps : Places) (i : ℕ) → owns id (at ps i) ≡ true → i < length ps
+pub owned-there : (id : PortId) (ps : Places) (i : ℕ) → owns id (at ps i) ≡ true → i < length ps
 owned-there id ps i e = ⊎-elim (λ lt. lt) (λ le. absurd (false≢true (sym (ap (owns id) (getD-past ps i None le)) ∙ e))) (cases-lt i (length ps))
 
 -- another link at one place of the bank
-held-set : (id : PortId) (ps : Places) (i : ℕ) (x : Option Link) (o : ℕ) → owns id (at ps i) ≡ true
+pub held-set : (id : PortId) (ps : Places) (i : ℕ) (x : Option Link) (o : ℕ) → owns id (at ps i) ≡ true
     → held-by id (set ps i x) o + held-here id o (at ps i) ≡ held-by id ps o + held-here id o x
 held-set id ps i x o e = sumBy-set (held-here id o) ps i x None (owned-there id ps i e)
 
@@ -67,19 +67,19 @@ here-cleared id ps i o = through (at ps i)
 
 -- LETTING ALL GO
 
-all-go : (loans hand : List PointerOffset) (ps : Places) (os : List PointerOffset) (p : Pub) → Books loans (os ++ hand) p ps → Books loans hand (let-go-all p os) ps
+pub all-go : (loans hand : List PointerOffset) (ps : Places) (os : List PointerOffset) (p : Pub) → Books loans (os ++ hand) p ps → Books loans hand (let-go-all p os) ps
 all-go loans hand ps [] p k = k
 all-go loans hand ps (o ∷ os) p k = all-go loans hand ps os (let-go p o) (letting-go loans (os ++ hand) p ps o k)
 
-all-id : (os : List PointerOffset) (p : Pub) → let-go-all p os .id ≡ p .id
+pub all-id : (os : List PointerOffset) (p : Pub) → let-go-all p os .id ≡ p .id
 all-id [] p = refl
 all-id (o ∷ os) p = all-id os (let-go p o)
 
-all-slots : (os : List PointerOffset) (p : Pub) → let-go-all p os .slots ≡ p .slots
+pub all-slots : (os : List PointerOffset) (p : Pub) → let-go-all p os .slots ≡ p .slots
 all-slots [] p = refl
 all-slots (o ∷ os) p = all-slots os (let-go p o)
 
-all-loans : (os : List PointerOffset) (p : Pub) → let-go-all p os .loans ≡ p .loans
+pub all-loans : (os : List PointerOffset) (p : Pub) → let-go-all p os .loans ≡ p .loans
 all-loans [] p = refl
 all-loans (o ∷ os) p = all-loans os (let-go p o)
 
@@ -125,27 +125,32 @@ walk loans hand (Some c ∷ xs) g own k =
       loans-same = rest .loans-same ∙ one-kept .loans-same;
       owned = λ j. ap (λ id. owns id (at (folded emptied h xs .links) j)) (sym (one-kept .id)) ∙ (rest .owned j ∙ (ap (λ id. owns id (at (h .links) j)) (one-kept .id) ∙ one-kept .owned j)) }
 
--- what stands after all links were emptied
-pub record Reclaimed (loans hand : List PointerOffset) (g h : Side) : Type 0 where
-  pub books : Books loans hand (h .port) (h .links)
-  pub wired : Wired (h .port) (h .links)
-  pub loans-same : h .port .loans ≡ g .port .loans
-
-pub reclaimed : (loans hand : List PointerOffset) (g : Side) → Wired (g .port) (g .links) → Books loans hand (g .port) (g .links) → Reclaimed loans hand g (reclaimed-all g)
-reclaimed loans hand g w k =
-    let r = walk loans hand (g .port .slots) g (w .own) k in
+pub reclaiming : (loans hand : List PointerOffset) (g : Side) → In-order loans hand g → In-order loans hand (reclaimed-all g)
+reclaiming loans hand g k =
+    let w = k .wired in
+    let r = walk loans hand (g .port .slots) g (w .own) (k .books) in
+    let back : (i : ℕ) (c : Connection) → slot-at (reclaimed-all g .port) i ≡ Some c → slot-at (g .port) i ≡ Some c
+             = λ i c e. sym (ap (λ xs. getD xs i None) (r .slots)) ∙ e in
     record {
       books = r .books;
       wired = record {
-        own = λ i c e. ap (λ id. owns id (at (reclaimed-all g .links) (c .place))) (r .id)
-          ∙ (r .owned (c .place) ∙ w .own i c (sym (ap (λ xs. getD xs i None) (r .slots)) ∙ e)) };
-      loans-same = r .loans-same }
+        own = λ i c e. ap (λ id. owns id (at (reclaimed-all g .links) (c .place))) (r .id) ∙ (r .owned (c .place) ∙ w .own i c (back i c e));
+        apart = λ i j c d a b. w .apart i j c d (back i c a) (back j d b) } }
+
+pub reclaimed-loans : (hand : List PointerOffset) (g : Side) → In-order (g .port .loans) hand g → In-order (reclaimed-all g .port .loans) hand (reclaimed-all g)
+reclaimed-loans hand g k =
+    let r = walk (g .port .loans) hand (g .port .slots) g (k .wired .own) (k .books) in
+    subst (λ l. In-order l hand (reclaimed-all g)) (sym (r .loans-same)) (reclaiming (g .port .loans) hand g k)
 
 -- FILLING AND RETURNING
 
-pub filling : (hand : List PointerOffset) (p : Pub) (ps : Places) (o : PointerOffset) (source : List ℕ) → Books (p .loans) hand p ps
-    → Books (fill-after p o source .loans) hand (fill-after p o source) ps
-filling hand p ps o source k = record { ledger = k .ledger; balance = k .balance; free = k .free; alone = k .alone; once = k .once }
+pub filling : (hand : List PointerOffset) (g : Side) (o : PointerOffset) (source : List ℕ) → In-order (g .port .loans) hand g
+    → In-order (fill-after (g .port) o source .loans) hand (beside g (fill-after (g .port) o source))
+filling hand g o source k =
+    let b = k .books in
+    record {
+      books = record { ledger = b .ledger; balance = b .balance; free = b .free; alone = b .alone; once = b .once };
+      wired = record { own = k .wired .own; apart = k .wired .apart } }
 
 -- a loan comes into hand
 in-hand : (hand : List PointerOffset) (p : Pub) (ps : Places) (o : PointerOffset) → is-live p o ≡ true → Books (p .loans) hand p ps
@@ -163,10 +168,13 @@ ended : (hand : List PointerOffset) (p : Pub) (ps : Places) (o : PointerOffset) 
     → Books (unloaned p o .loans) hand (unloaned p o) ps
 ended hand p ps o live k = letting-go (without same-chunk (p .loans) o) hand (with-loans p (without same-chunk (p .loans) o)) ps o (in-hand hand p ps o live k)
 
-pub returning : (hand : List PointerOffset) (p : Pub) (ps : Places) (o : PointerOffset) → Books (p .loans) hand p ps
-    → Books (return-after p o .loans) hand (return-after p o) ps
-returning hand p ps o k =
+pub returning : (hand : List PointerOffset) (g : Side) (o : PointerOffset) → In-order (g .port .loans) hand g
+    → In-order (return-after (g .port) o .loans) hand (beside g (return-after (g .port) o))
+returning hand g o k =
+    let p = g .port in
+    let to : Pub → Type 0 = λ q. In-order (q .loans) hand (beside g q) in
     ⊎-elim
-      (λ yes. subst (λ q. Books (q .loans) hand q ps) (sym (cond-true _ (unloaned p o) p yes)) (ended hand p ps o yes k))
-      (λ no. subst (λ q. Books (q .loans) hand q ps) (sym (cond-false _ (unloaned p o) p no)) k)
+      (λ yes. subst to (sym (cond-true _ (unloaned p o) p yes))
+          (record { books = ended hand p (g .links) o yes (k .books); wired = record { own = k .wired .own; apart = k .wired .apart } }))
+      (λ no. subst to (sym (cond-false _ (unloaned p o) p no)) k)
       (cases-bool (is-live p o))

@@ -13,12 +13,13 @@ use Rattle.elementary.specs.Ids.{same-port}
 use Rattle.elementary.specs.declared.port_id.PortId.{PortId}
 use Rattle.elementary.specs.declared.pointer_offset.PointerOffset.{PointerOffset}
 use Rattle.elementary.specs.declared.error.LoanError.{LoanError}
+use Rattle.elementary.specs.declared.error.CloseError.{CloseError}
 use Rattle.rules.specs.Memory.{Sound, segment-at, taken-at}
 use Rattle.rules.specs.Counts.{Chunks, counts-of, count-at}
 use Rattle.rules.specs.Pools.{by}
 use Rattle.rules.specs.Links.{Link, attached, listed, times}
 use Rattle.rules.specs.Bank.{Places, at}
-use Rattle.rules.specs.Publisher.{Connection, Pub, Side, slot-at, hold, let-go, reclaimed-all, Loans, fill-after, return-after}
+use Rattle.rules.specs.Publisher.{Connection, Pub, Side, slot-at, hold, let-go, reclaimed-all, Loans, Removes, Closes, fill-after, return-after}
 
 -- a link of a publisher bears its id, and its sender end is attached
 abbrev pub mine : PortId → Link → Bool
@@ -70,18 +71,27 @@ pub record Moves-keep-the-books : Type 0 where
 abbrev pub owns : PortId → Option Link → Bool
 owns id x = by x false (mine id)
 
--- each slot's connection has a link of the publisher at its place
+-- each slot's connection has a link of the publisher at its place, and no two have the same
 pub record Wired (p : Pub) (ps : Places) : Type 0 where
   pub own : (i : ℕ) (c : Connection) → slot-at p i ≡ Some c → owns (p .id) (at ps (c .place)) ≡ true
+  pub apart : (i j : ℕ) (c d : Connection) → slot-at p i ≡ Some c → slot-at p j ≡ Some d → c .place ≡ d .place → i ≡ j
 
--- reclaiming, loaning, filling and returning keep the books, whatever else is in hand
-pub record Calls-keep-the-books : Type 0 where
-  pub reclaiming : (loans hand : List PointerOffset) (g : Side) → Wired (g .port) (g .links) → Books loans hand (g .port) (g .links)
-    → Books loans hand (reclaimed-all g .port) (reclaimed-all g .links) × Wired (reclaimed-all g .port) (reclaimed-all g .links)
+-- a publisher in order, beside the bank
+pub record In-order (loans hand : List PointerOffset) (g : Side) : Type 0 where
+  pub books : Books loans hand (g .port) (g .links)
+  pub wired : Wired (g .port) (g .links)
+
+abbrev pub beside : Side → Pub → Side
+beside g p = record { port = p; links = g .links }
+
+-- these calls keep a publisher in order, whatever else is in hand
+pub record Calls-keep-order : Type 0 where
+  pub reclaiming : (loans hand : List PointerOffset) (g : Side) → In-order loans hand g → In-order loans hand (reclaimed-all g)
+  pub removing : (loans hand : List PointerOffset) (g : Side) (i : ℕ) (h : Side) → Removes g i h → In-order loans hand g → In-order loans hand h
   pub loaning : (hand : List PointerOffset) (limit : ℕ) (g : Side) (asked align : ℕ) (r : Result PointerOffset LoanError) (h : Side)
-    → Loans g asked align r h → Sound limit (h .port .chunks .mem) → Wired (g .port) (g .links) → Books (g .port .loans) hand (g .port) (g .links)
-    → Books (h .port .loans) hand (h .port) (h .links) × Wired (h .port) (h .links)
-  pub filling : (hand : List PointerOffset) (p : Pub) (ps : Places) (o : PointerOffset) (source : List ℕ) → Books (p .loans) hand p ps
-    → Books (fill-after p o source .loans) hand (fill-after p o source) ps
-  pub returning : (hand : List PointerOffset) (p : Pub) (ps : Places) (o : PointerOffset) → Books (p .loans) hand p ps
-    → Books (return-after p o .loans) hand (return-after p o) ps
+    → Loans g asked align r h → Sound limit (h .port .chunks .mem) → In-order (g .port .loans) hand g → In-order (h .port .loans) hand h
+  pub filling : (hand : List PointerOffset) (g : Side) (o : PointerOffset) (source : List ℕ) → In-order (g .port .loans) hand g
+    → In-order (fill-after (g .port) o source .loans) hand (beside g (fill-after (g .port) o source))
+  pub returning : (hand : List PointerOffset) (g : Side) (o : PointerOffset) → In-order (g .port .loans) hand g
+    → In-order (return-after (g .port) o .loans) hand (beside g (return-after (g .port) o))
+  pub closing : (hand : List PointerOffset) (g : Side) (r : Option CloseError) (h : Side) → Closes g r h → In-order (g .port .loans) hand g → In-order (h .port .loans) hand h
