@@ -11,3 +11,4 @@ pub mod Keep
 pub mod Reclaims
 pub mod Lends
 pub mod Removes
+pub mod Posts

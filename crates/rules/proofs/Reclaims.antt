@@ -37,7 +37,7 @@ pub held-set : (id : PortId) (ps : Places) (i : ℕ) (x : Option Link) (o : ℕ)
     → held-by id (set ps i x) o + held-here id o (at ps i) ≡ held-by id ps o + held-here id o x
 held-set id ps i x o e = sumBy-set (held-here id o) ps i x None (owned-there id ps i e)
 
-owns-changed : (f : Link → Link) → ((id : PortId) (l : Link) → mine id (f l) ≡ mine id l) → (id : PortId) (ps : Places) (i j : ℕ)
+pub owns-changed : (f : Link → Link) → ((id : PortId) (l : Link) → mine id (f l) ≡ mine id l) → (id : PortId) (ps : Places) (i j : ℕ)
     → owns id (at ps i) ≡ true → owns id (at (changed ps i f) j) ≡ owns id (at ps j)
 owns-changed f keep id ps i j e =
     ⊎-elim

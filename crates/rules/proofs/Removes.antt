@@ -77,7 +77,7 @@ slot-back xs i c there j d e =
 -- REMOVING
 
 -- the slots and the id that a publisher has decide how it is wired
-rewired : (p q : Pub) (ps : Places) → q .id ≡ p .id → q .slots ≡ p .slots → Wired p ps → Wired q ps
+pub rewired : (p q : Pub) (ps : Places) → q .id ≡ p .id → q .slots ≡ p .slots → Wired p ps → Wired q ps
 rewired p q ps id slots w =
     let back : (i : ℕ) (c : Connection) → slot-at q i ≡ Some c → slot-at p i ≡ Some c = λ i c e. sym (ap (λ xs. getD xs i None) slots) ∙ e in
     record {
