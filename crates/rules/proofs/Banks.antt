@@ -69,7 +69,7 @@ refused true Sound l o e =
     ap (λ h. isOk (cond h (Err sending.UsedChunkListFull)
     (cond (roomy (l .details .«buffer_size») (l .waiting) || l .details .«enable_safe_overflow») (Ok (evicted (l .details .«buffer_size») (l .waiting) o)) (Err sending.ReceiveBufferFull)))) e
 
-accepted : (l : Link) (o : PointerOffset) → isOk (send-answer l o) ≡ true → lists l o ≡ false
+pub accepted : (l : Link) (o : PointerOffset) → isOk (send-answer l o) ≡ true → lists l o ≡ false
 accepted l o e =
     ⊎-elim (λ yes. absurd (false≢true (sym (refused (attached (l .sender-end)) (l .mark) l o yes) ∙ e))) (λ no. no) (cases-bool (lists l o))
 

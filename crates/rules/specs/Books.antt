@@ -7,8 +7,9 @@ use lib.Dec.{ltb}
 use lib.ListN.{length, getD}
 use Rattle.std.specs.shelf.Lists.{sumBy}
 use Rattle.std.specs.declared.option.Option.{Option}
-use Rattle.std.specs.declared.option.Option.the-variants.{Some, None}
+use Rattle.std.specs.declared.option.Option.the-variants.{Some}
 use Rattle.std.specs.declared.result.Result.{Result}
+use Rattle.std.specs.declared.result.Result.the-variants.{Ok}
 use Rattle.elementary.specs.Ids.{same-port}
 use Rattle.elementary.specs.declared.port_id.PortId.{PortId}
 use Rattle.elementary.specs.declared.pointer_offset.PointerOffset.{PointerOffset}
@@ -18,8 +19,8 @@ use Rattle.rules.specs.Memory.{Sound, segment-at, taken-at}
 use Rattle.rules.specs.Counts.{Chunks, counts-of, count-at}
 use Rattle.rules.specs.Pools.{by}
 use Rattle.rules.specs.Links.{Link, attached, listed, times}
-use Rattle.rules.specs.Bank.{Places, at}
-use Rattle.rules.specs.Publisher.{Connection, Pub, Side, slot-at, hold, let-go, reclaimed-all, Loans, Removes, Closes, fill-after, return-after}
+use Rattle.rules.specs.Bank.{Places, at, sends, Sound-bank}
+use Rattle.rules.specs.Publisher.{Connection, Pub, Side, slot-at, hold, let-go, taken-up, reclaimed-all, Loans, Removes, Closes, fill-after, return-after}
 
 -- a link of a publisher bears its id, and its sender end is attached
 abbrev pub mine : PortId → Link → Bool
@@ -71,10 +72,12 @@ pub record Moves-keep-the-books : Type 0 where
 abbrev pub owns : PortId → Option Link → Bool
 owns id x = by x false (mine id)
 
--- each slot's connection has a link of the publisher at its place, and no two have the same
+-- each slot's connection has a link of the publisher at its place, no two have the same, and every link of the publisher is some slot's
 pub record Wired (p : Pub) (ps : Places) : Type 0 where
   pub own : (i : ℕ) (c : Connection) → slot-at p i ≡ Some c → owns (p .id) (at ps (c .place)) ≡ true
   pub apart : (i j : ℕ) (c d : Connection) → slot-at p i ≡ Some c → slot-at p j ≡ Some d → c .place ≡ d .place → i ≡ j
+  pub cover : (j : ℕ) → owns (p .id) (at ps j) ≡ true → (i : ℕ) × ((c : Connection) × (slot-at p i ≡ Some c) × (c .place ≡ j))
+  pub few : length (p .slots) ≤ 8
 
 -- a publisher in order, beside the bank
 pub record In-order (loans hand : List PointerOffset) (g : Side) : Type 0 where
@@ -88,10 +91,14 @@ beside g p = record { port = p; links = g .links }
 pub record Calls-keep-order : Type 0 where
   pub reclaiming : (loans hand : List PointerOffset) (g : Side) → In-order loans hand g → In-order loans hand (reclaimed-all g)
   pub removing : (loans hand : List PointerOffset) (g : Side) (i : ℕ) (h : Side) → Removes g i h → In-order loans hand g → In-order loans hand h
+  -- a link takes a chunk that is in the history or in hand: it is one holder more, no count passes 10, and what the link evicts has one less
+  pub posting : (loans hand : List PointerOffset) (g : Side) (s : ℕ) (c : Connection) (o : PointerOffset) (e : Option PointerOffset) → slot-at (g .port) s ≡ Some c
+      → sends (g .links) (c .place) o ≡ Ok e → Sound-bank (g .links) → 0 < times (g .port .history) (o .value) + times hand (o .value) → times hand (o .value) ≤ 1
+      → In-order loans hand g → In-order loans hand (taken-up g (c .place) o (Ok e)) × (count-of (g .port) (o .value) < 10)
   pub loaning : (hand : List PointerOffset) (limit : ℕ) (g : Side) (asked align : ℕ) (r : Result PointerOffset LoanError) (h : Side)
-    → Loans g asked align r h → Sound limit (h .port .chunks .mem) → In-order (g .port .loans) hand g → In-order (h .port .loans) hand h
+      → Loans g asked align r h → Sound limit (h .port .chunks .mem) → In-order (g .port .loans) hand g → In-order (h .port .loans) hand h
   pub filling : (hand : List PointerOffset) (g : Side) (o : PointerOffset) (source : List ℕ) → In-order (g .port .loans) hand g
-    → In-order (fill-after (g .port) o source .loans) hand (beside g (fill-after (g .port) o source))
+      → In-order (fill-after (g .port) o source .loans) hand (beside g (fill-after (g .port) o source))
   pub returning : (hand : List PointerOffset) (g : Side) (o : PointerOffset) → In-order (g .port .loans) hand g
-    → In-order (return-after (g .port) o .loans) hand (beside g (return-after (g .port) o))
+      → In-order (return-after (g .port) o .loans) hand (beside g (return-after (g .port) o))
   pub closing : (hand : List PointerOffset) (g : Side) (r : Option CloseError) (h : Side) → Closes g r h → In-order (g .port .loans) hand g → In-order (h .port .loans) hand h
