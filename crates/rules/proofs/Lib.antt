@@ -11,4 +11,5 @@ pub mod Keep
 pub mod Reclaims
 pub mod Lends
 pub mod Removes
+pub mod Cycles
 pub mod Posts

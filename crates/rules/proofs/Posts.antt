@@ -35,6 +35,7 @@ use Rattle.rules.proofs.Banks.{listed-times, accepted}
 use Rattle.rules.proofs.Keep.{holding, letting-go, moving}
 use Rattle.rules.proofs.Reclaims.{held-set, owns-changed, reclaiming, filling, returning}
 use Rattle.rules.proofs.Lends.{loaning}
+use Rattle.rules.proofs.Cycles.{beginning, tagging, sweeping}
 use Rattle.rules.proofs.Removes.{rewired, place-of, slot-there, removing, closing}
 
 -- ONE LINK
@@ -257,6 +258,9 @@ calls-keep-order = record {
   reclaiming = reclaiming;
   removing = removing;
   posting = posting;
+  beginning = beginning;
+  tagging = tagging;
+  sweeping = sweeping;
   loaning = loaning;
   filling = filling;
   returning = returning;

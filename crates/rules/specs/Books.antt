@@ -20,7 +20,7 @@ use Rattle.rules.specs.Counts.{Chunks, counts-of, count-at}
 use Rattle.rules.specs.Pools.{by}
 use Rattle.rules.specs.Links.{Link, attached, listed, times}
 use Rattle.rules.specs.Bank.{Places, at, sends, Sound-bank}
-use Rattle.rules.specs.Publisher.{Connection, Pub, Side, slot-at, hold, let-go, taken-up, reclaimed-all, Loans, Removes, Closes, fill-after, return-after}
+use Rattle.rules.specs.Publisher.{Connection, Pub, Side, slot-at, hold, let-go, taken-up, reclaimed-all, Loans, Removes, begun, tag-slot, Sweeps, Closes, fill-after, return-after}
 
 -- a link of a publisher bears its id, and its sender end is attached
 abbrev pub mine : PortId → Link → Bool
@@ -95,6 +95,10 @@ pub record Calls-keep-order : Type 0 where
   pub posting : (loans hand : List PointerOffset) (g : Side) (s : ℕ) (c : Connection) (o : PointerOffset) (e : Option PointerOffset) → slot-at (g .port) s ≡ Some c
       → sends (g .links) (c .place) o ≡ Ok e → Sound-bank (g .links) → 0 < times (g .port .history) (o .value) + times hand (o .value) → times hand (o .value) ≤ 1
       → In-order loans hand g → In-order loans hand (taken-up g (c .place) o (Ok e)) × (count-of (g .port) (o .value) < 10)
+  -- a cycle begins, a slot is tagged, and the slots that were not are emptied
+  pub beginning : (loans hand : List PointerOffset) (g : Side) (n : ℕ) → In-order loans hand g → In-order loans hand (beside g (begun (g .port) n))
+  pub tagging : (loans hand : List PointerOffset) (g : Side) (i : ℕ) → In-order loans hand g → In-order loans hand (beside g (tag-slot (g .port) i))
+  pub sweeping : (loans hand : List PointerOffset) (i n : ℕ) (g h : Side) → Sweeps i n g h → In-order loans hand g → In-order loans hand h
   pub loaning : (hand : List PointerOffset) (limit : ℕ) (g : Side) (asked align : ℕ) (r : Result PointerOffset LoanError) (h : Side)
       → Loans g asked align r h → Sound limit (h .port .chunks .mem) → In-order (g .port .loans) hand g → In-order (h .port .loans) hand h
   pub filling : (hand : List PointerOffset) (g : Side) (o : PointerOffset) (source : List ℕ) → In-order (g .port .loans) hand g

@@ -9,7 +9,8 @@ pub fn moves_keep_the_books_stands() -> u8
     0
 }
 
-// Reclaiming, removing a link, loaning, filling, returning and closing keep the books, and each slot wired to a link of its own.
+// Reclaiming, removing a link, tagging and sweeping slots, loaning, filling, returning, closing, and a link that takes a chunk keep the
+// books, and each slot wired to a link of its own.
 pub fn calls_keep_order_stands() -> u8
     ensures { λ _. ⌜ Calls-keep-order ⌝ }
 {
