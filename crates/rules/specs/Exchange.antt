@@ -54,21 +54,26 @@ pub record State : Type 0 where
 
 -- PORTS BY THEIR IDS
 
+-- the port of an id, and the ports with another record for it; where the id is of none, nothing and no change
+abbrev pub port-of : {X : Type 0} → (X → PortId) → PortId → List X → Option X
+port-of id-of id [] = None
+port-of id-of id (x ∷ xs) = cond (same-port (id-of x) id) (Some x) (port-of id-of id xs)
+
+abbrev pub with-port : {X : Type 0} → (X → PortId) → PortId → X → List X → List X
+with-port id-of id y [] = []
+with-port id-of id y (x ∷ xs) = cond (same-port (id-of x) id) (y ∷ xs) (x ∷ with-port id-of id y xs)
+
 abbrev pub pub-of : PortId → List Pub → Option Pub
-pub-of id [] = None
-pub-of id (p ∷ ps) = cond (same-port (p .id) id) (Some p) (pub-of id ps)
+pub-of id ps = port-of (λ (p : Pub). p .id) id ps
 
 abbrev pub with-pub : PortId → Pub → List Pub → List Pub
-with-pub id q [] = []
-with-pub id q (p ∷ ps) = cond (same-port (p .id) id) (q ∷ ps) (p ∷ with-pub id q ps)
+with-pub id q ps = with-port (λ (p : Pub). p .id) id q ps
 
 abbrev pub sub-of : PortId → List Sub → Option Sub
-sub-of id [] = None
-sub-of id (s ∷ ss) = cond (same-port (s .id) id) (Some s) (sub-of id ss)
+sub-of id ss = port-of (λ (s : Sub). s .id) id ss
 
 abbrev pub with-sub : PortId → Sub → List Sub → List Sub
-with-sub id r [] = []
-with-sub id r (s ∷ ss) = cond (same-port (s .id) id) (r ∷ ss) (s ∷ with-sub id r ss)
+with-sub id r ss = with-port (λ (s : Sub). s .id) id r ss
 
 abbrev pub side-of : State → Pub → Side
 side-of s p = record { port = p; links = s .links }
