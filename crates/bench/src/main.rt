@@ -1,4 +1,6 @@
 // A second of the feed: twelve sag maps go through one memory, each held by three consumers who let go in different orders.
+#![tactic(auto)]
+
 mod feed;
 mod maps;
 

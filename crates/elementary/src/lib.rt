@@ -1,4 +1,6 @@
 // What all layers share: names of ports and chunks, refusals, settings and backpressure handlers.
+#![tactic(auto)]
+
 pub mod backpressure;
 pub mod chunk_details;
 pub mod error;
