@@ -6,6 +6,7 @@ use Rattle.elementary.specs.Refusals.{loan_refusal, fill_refusal, send_refusal, 
 use Rattle.elementary.specs.declared.port_id.PortId.{PortId}
 use Rattle.elementary.specs.declared.pointer_offset.PointerOffset.{PointerOffset}
 use Rattle.elementary.specs.declared.chunk_details.ChunkDetails.{ChunkDetails}
+use Rattle.elementary.specs.declared.link.Mark.{Mark}
 use Rattle.elementary.specs.declared.error.Refusal.{Refusal}
 use Rattle.elementary.specs.declared.error.LoanError.{LoanError}
 use Rattle.elementary.specs.declared.error.SendError.{SendError}
