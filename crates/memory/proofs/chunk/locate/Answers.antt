@@ -7,4 +7,4 @@ use Rattle.memory.proofs.chunk.locate.Goals as goal
 pub returns-in-None : goal.returns-in-None
 returns-in-None g c =
     let gs = (g.M.Segmented.model c.args.memory.now).segments in
-    sym (cond-false _ _ _ (startless gs c.args.offset.value (c.in-None.ensures ∙ ap (start_of gs) (c.from-segment.ensures ∙ c.segment-id.ensures))))
+    sym (cond-false _ _ _ (startless gs c.args.offset.value (c.in-None.ensures ∙ ap (start_of gs) (c.from-segment.ensures ∙ c.segment_id.ensures))))

@@ -2,7 +2,7 @@ use Rattle.std.proofs.Common.{arith}
 use Rattle.rules.proofs.Chunks.{start_low}
 use Rattle.memory.proofs.data_segment.View.translate.Goals as goal
 
-pub overflow-add-result : goal.overflow-add-result
-overflow-add-result g c =
+pub overflow_add-result : goal.overflow_add-result
+overflow_add-result g c =
     let m = c.args.memory.now in
     omega (arith, start_low _ (g.M.Segmented.model m) _ _ (g.met.M.Segmented.sound m) c.in-Some.ensures, c.offset.ensures.range)

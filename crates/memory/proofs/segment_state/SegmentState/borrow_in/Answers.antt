@@ -6,10 +6,10 @@ use Rattle.memory.proofs.segment_state.SegmentState.borrow_in.Goals as goal
 pub returns-then-segment-len : goal.returns-then-segment-len
 returns-then-segment-len c =
     let v = c.args.self.now.segments in
-    let r = row_at v c.args.segment _ (omega arith) c.index-mut.ensures.value in
+    let r = row_at v c.args.segment _ (omega arith) c.index_mut.ensures.value in
     record {
-      value = c.borrow-sample.ensures.value ∙ ap (λ ns. get_or ns c.args.bucket 0) (sym r);
-      after = rows_changed v c.args.segment _ c.borrow-sample.new.self (λ ns. set ns c.args.bucket (raised (get_or ns c.args.bucket 0))) (omega arith) c.index-mut.ensures.value c.borrow-sample.ensures.after;
+      value = c.borrow_sample.ensures.value ∙ ap (λ ns. get_or ns c.args.bucket 0) (sym r);
+      after = rows_changed v c.args.segment _ c.borrow_sample.new.self (λ ns. set ns c.args.bucket (raised (get_or ns c.args.bucket 0))) (omega arith) c.index_mut.ensures.value c.borrow_sample.ensures.after;
     }
 
 pub returns-else-segment-len : goal.returns-else-segment-len

@@ -5,16 +5,16 @@ use Rattle.pool.specs.Dynamic.{dynamic_of}
 use Rattle.pool.specs.Layouts.{Layout, pool_there, pools_set, pools_same, layout_pools, alike_gave}
 use Rattle.pool.proofs.dynamic_memory.DynamicMemory.give_in.Goals as goal
 
-pub give-back-requires : goal.give-back-requires
-give-back-requires c =
-    sym (ap (λ (p : Pool). get_or p.buckets.taken c.args.bucket false) (pool_there c.args.self.now.live c.args.segment _ (omega arith) c.index-mut.ensures.value)) ∙ c.requires
+pub give_back-requires : goal.give_back-requires
+give_back-requires c =
+    sym (ap (λ (p : Pool). get_or p.buckets.taken c.args.bucket false) (pool_there c.args.self.now.live c.args.segment _ (omega arith) c.index_mut.ensures.value)) ∙ c.requires
 
-pub invariant-of-self : goal.invariant-of-self
-invariant-of-self c =
+pub invariant_of-self : goal.invariant_of-self
+invariant_of-self c =
     let s = c.args.self.now in
     let v = s.live in
     let ps = pools_in (vec_items v) in
-    let e = pools_set v c.args.segment _ c.give-back.new.self (λ p. gave p c.args.bucket) (omega arith) c.index-mut.ensures.value c.give-back.ensures in
+    let e = pools_set v c.args.segment _ c.give_back.new.self (λ p. gave p c.args.bucket) (omega arith) c.index_mut.ensures.value c.give_back.ensures in
     let l = subst (λ qs. Layout (segments_of qs) s.end s.count) (sym e)
     (layout_pools ps c.args.segment _ s.end s.count (alike_gave (pool_at ps c.args.segment) c.args.bucket) (record { laid = s.laid; rising = s.rising; even = s.even })) in
     (s.four, (s.room, (s.sized, (l.laid, (l.rising, (l.even, (s.spares, tt)))))))
@@ -22,7 +22,7 @@ invariant-of-self c =
 pub returns-then-segment-len : goal.returns-then-segment-len
 returns-then-segment-len c =
     let s = c.args.self.now in
-    ap (with_pools (dynamic_of s)) (pools_set s.live c.args.segment _ c.give-back.new.self (λ p. gave p c.args.bucket) (omega arith) c.index-mut.ensures.value c.give-back.ensures)
+    ap (with_pools (dynamic_of s)) (pools_set s.live c.args.segment _ c.give_back.new.self (λ p. gave p c.args.bucket) (omega arith) c.index_mut.ensures.value c.give_back.ensures)
 
 pub returns-else-segment-len : goal.returns-else-segment-len
 returns-else-segment-len c =

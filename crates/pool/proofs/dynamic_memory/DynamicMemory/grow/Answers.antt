@@ -9,18 +9,18 @@ use Rattle.pool.specs.Layouts.{Layout, layout_push, pools_length, spares_pop}
 use Rattle.pool.specs.Dynamics.{grown_pools}
 use Rattle.pool.proofs.dynamic_memory.DynamicMemory.grow.Goals as goal
 
-pub invariant-of-self-in-Some : goal.invariant-of-self-in-Some
-invariant-of-self-in-Some c =
+pub invariant_of-self-in-Some : goal.invariant_of-self-in-Some
+invariant_of-self-in-Some c =
     let s = c.args.self.now in
     let ps = pools_in (vec_items s.live) in
     let g = blank s.end (rounded c.args.size) s.count in
     let p = spares_pop _ _ _ _ c.in-Some.ensures.items s.spares in
     let l = layout_push (segments_of ps) g s.end s.count refl (length-replicate s.count false) (record { laid = s.laid; rising = s.rising; even = s.even }) in
     let m = subst (λ gs. Layout gs (s.end + rounded c.args.size * s.count) s.count)
-    (sym (ap segments_of (grown_pools s c.args.size _ _ _ _ c.push-reserved.ensures.items c.in-Some.ensures.items c.lay.ensures) ∙ map_push (λ (q : Pool). q.buckets) ps (new_pool s.end (rounded c.args.size) s.count))) l in
+    (sym (ap segments_of (grown_pools s c.args.size _ _ _ _ c.push_reserved.ensures.items c.in-Some.ensures.items c.lay.ensures) ∙ map_push (λ (q : Pool). q.buckets) ps (new_pool s.end (rounded c.args.size) s.count))) l in
     let z : rounded c.args.size ≤ 65536 = omega (arith, c.requires) in
     let span : rounded c.args.size * s.count ≤ 65536 * 256 = mul-le-mul z s.sized.4 in
-    let n : vec_len c.push-reserved.new.self ≡ vec_len s.live + 1 = c.push-reserved.ensures.len in (
+    let n : vec_len c.push_reserved.new.self ≡ vec_len s.live + 1 = c.push_reserved.ensures.len in (
       search rules,
       (
         search rules,
@@ -47,5 +47,5 @@ returns-in-Some c =
     let grows : Dynamic = grown (dynamic_of s) c.args.size in
     record {
       value = sym yes;
-      after = ap (λ ps. record { pools = ps; count = s.count; end = grows.end; capacity = s.capacity }) (grown_pools s c.args.size _ _ _ _ c.push-reserved.ensures.items c.in-Some.ensures.items c.lay.ensures) ∙ sym (cond-true _ _ _ yes);
+      after = ap (λ ps. record { pools = ps; count = s.count; end = grows.end; capacity = s.capacity }) (grown_pools s c.args.size _ _ _ _ c.push_reserved.ensures.items c.in-Some.ensures.items c.lay.ensures) ∙ sym (cond-true _ _ _ yes);
     }

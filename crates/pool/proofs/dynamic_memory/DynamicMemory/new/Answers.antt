@@ -5,20 +5,20 @@ use Rattle.rules.specs.Pools.{segments_of}
 use Rattle.pool.specs.Layouts.{Layout, layout_one}
 use Rattle.pool.proofs.dynamic_memory.DynamicMemory.new.Goals as goal
 
-pub invariant-of-result : goal.invariant-of-result
-invariant-of-result c =
+pub invariant_of-result : goal.invariant_of-result
+invariant_of-result c =
     let size = c.args.size in
     let count = c.args.count in
-    let fair = c.if-not-is-fair.ensures in
+    let fair = c.if-not-is_fair.ensures in
     let span : size * count ≤ 65536 * 256 = mul-le-mul fair.2 fair.4 in
     let one = layout_one (blank 0 size count) count refl (length-replicate count false) in
-    let l = subst (λ gs. Layout gs (size * count) count) (sym (ap segments_of c.in-ok-live.ensures.0)) one in (
+    let l = subst (λ gs. Layout gs (size * count) count) (sym (ap segments_of c.in_ok-live.ensures.0)) one in (
       search rules,
       (
         search rules,
         (
-          (search rules, search rules, omega (arith, c.in-ok-live.ensures.1), fair.3, fair.4),
-          (l.laid, (l.rising, (l.even, (c.in-ok-spare.ensures.0, tt)))),
+          (search rules, search rules, omega (arith, c.in_ok-live.ensures.1), fair.3, fair.4),
+          (l.laid, (l.rising, (l.even, (c.in_ok-spare.ensures.0, tt)))),
         ),
       ),
     )

@@ -5,12 +5,12 @@ use Rattle.pool.specs.Dynamic.{dynamic_of}
 use Rattle.pool.specs.Layouts.{Layout, pool_there, pool_past, pools_set, pools_same, layout_pools, alike_took}
 use Rattle.pool.proofs.dynamic_memory.DynamicMemory.take_in.Goals as goal
 
-pub invariant-of-self : goal.invariant-of-self
-invariant-of-self c =
+pub invariant_of-self : goal.invariant_of-self
+invariant_of-self c =
     let s = c.args.self.now in
     let v = s.live in
     let ps = pools_in (vec_items v) in
-    let e = pools_set v c.args.segment _ c.take.new.self took (omega arith) c.index-mut.ensures.value c.take.ensures.after in
+    let e = pools_set v c.args.segment _ c.take.new.self took (omega arith) c.index_mut.ensures.value c.take.ensures.after in
     let l = subst (λ qs. Layout (segments_of qs) s.end s.count) (sym e)
     (layout_pools ps c.args.segment _ s.end s.count (alike_took (pool_at ps c.args.segment)) (record { laid = s.laid; rising = s.rising; even = s.even })) in
     (s.four, (s.room, (s.sized, (l.laid, (l.rising, (l.even, (s.spares, tt)))))))
@@ -20,8 +20,8 @@ returns-then-segment-len c =
     let s = c.args.self.now in
     let v = s.live in
     record {
-      value = c.take.ensures.value ∙ ap next (sym (pool_there v c.args.segment _ (omega arith) c.index-mut.ensures.value));
-      after = ap (with_pools (dynamic_of s)) (pools_set v c.args.segment _ c.take.new.self took (omega arith) c.index-mut.ensures.value c.take.ensures.after);
+      value = c.take.ensures.value ∙ ap next (sym (pool_there v c.args.segment _ (omega arith) c.index_mut.ensures.value));
+      after = ap (with_pools (dynamic_of s)) (pools_set v c.args.segment _ c.take.new.self took (omega arith) c.index_mut.ensures.value c.take.ensures.after);
     }
 
 pub returns-else-segment-len : goal.returns-else-segment-len

@@ -6,5 +6,5 @@ pub loop-k-preserved : goal.loop-k-preserved
 loop-k-preserved c = (
   search rules,
   search rules,
-  spares_push (vec_items c.loop-k.spare) _ _ _ c.push-reserved.ensures.items c.in-ok-new.ensures c.loop-k.invariant.2,
+  spares_push (vec_items c.loop-k.spare) _ _ _ c.push_reserved.ensures.items c.in_ok-new.ensures c.loop-k.invariant.2,
 )

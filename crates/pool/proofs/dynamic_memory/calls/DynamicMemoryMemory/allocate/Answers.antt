@@ -10,11 +10,11 @@ pub returns : goal.returns
 returns c =
     let m = c.args.self.now in
     let r = dynamic_allocates m c.args.size c.args.align in
-    let a = c.take-bucket.ensures.answer in
-    let b = c.take-bucket.ensures.pools in
+    let a = c.take_bucket.ensures.answer in
+    let b = c.take_bucket.ensures.pools in
     record {
       fault = ap result_err a ∙ r.0;
-      after = subst (λ x. Allocates (dynamic_mem (dynamic_of m)) c.args.size x (dynamic_mem (dynamic_of c.take-bucket.new.self))) (sym a)
+      after = subst (λ x. Allocates (dynamic_mem (dynamic_of m)) c.args.size x (dynamic_mem (dynamic_of c.take_bucket.new.self))) (sym a)
           (subst (λ q. Allocates (dynamic_mem (dynamic_of m)) c.args.size (dynamic_answer (dynamic_of m) c.args.size c.args.align) (dynamic_mem q)) (sym b) r.1);
       answer = a;
       pools = b;

@@ -6,21 +6,21 @@ use Rattle.pool.specs.Dynamic.{dynamic_of}
 use Rattle.pool.specs.Dynamics.{taken_bucket, dynamic_frees}
 use Rattle.pool.proofs.dynamic_memory.calls.DynamicMemoryMemory.deallocate_bucket.Goals as goal
 
-pub give-in-requires : goal.give-in-requires
-give-in-requires c =
+pub give_in-requires : goal.give_in-requires
+give_in-requires c =
     let ps = (dynamic_of c.args.self.now).pools in
-    let s = c.from.ensures ∙ c.segment-id.ensures in
+    let s = c.from.ensures ∙ c.segment_id.ensures in
     ap (λ k. get_or (pool_at ps k).buckets.taken c.in-Some.bucket false) s
-    ∙ (taken_bucket ps c.args.offset.value c.in-Some.bucket (sym c.if-not-is-taken.ensures) c.in-Some.ensures).1
+    ∙ (taken_bucket ps c.args.offset.value c.in-Some.bucket (sym c.if-not-is_taken.ensures) c.in-Some.ensures).1
 
 pub returns : goal.returns
 returns c =
     let d = dynamic_of c.args.self.now in
     let ps = d.pools in
     let o = c.args.offset.value in
-    let t = sym c.if-not-is-taken.ensures in
+    let t = sym c.if-not-is_taken.ensures in
     let b = (taken_bucket ps o c.in-Some.bucket t c.in-Some.ensures).0 in
-    let gone = c.give-in.ensures
-    ∙ (ap (λ k. with_pools d (set ps k (gave (pool_at ps k) c.in-Some.bucket))) (c.from.ensures ∙ c.segment-id.ensures)
+    let gone = c.give_in.ensures
+    ∙ (ap (λ k. with_pools d (set ps k (gave (pool_at ps k) c.in-Some.bucket))) (c.from.ensures ∙ c.segment_id.ensures)
     ∙ (ap (λ x. with_pools d (set ps (segment o) (gave (pool_at ps (segment o)) x))) b ∙ sym (cond-true _ _ _ t))) in
     record { fault = sym (cond-true _ _ _ t); after = ap dynamic_mem gone ∙ dynamic_frees d o; pools = gone }

@@ -10,11 +10,11 @@ pub returns : goal.returns
 returns c =
     let m = c.args.self.now in
     let r = static_allocates m c.args.size c.args.align in
-    let a = c.take-bucket.ensures.answer in
-    let b = c.take-bucket.ensures.pool in
+    let a = c.take_bucket.ensures.answer in
+    let b = c.take_bucket.ensures.pool in
     record {
       fault = ap result_err a ∙ r.0;
-      after = subst (λ x. Allocates (static_mem (static_of m)) c.args.size x (static_mem (static_of c.take-bucket.new.self))) (sym a)
+      after = subst (λ x. Allocates (static_mem (static_of m)) c.args.size x (static_mem (static_of c.take_bucket.new.self))) (sym a)
           (subst (λ q. Allocates (static_mem (static_of m)) c.args.size (static_answer (static_of m) c.args.size c.args.align) (static_mem q)) (sym b) r.1);
       answer = a;
       pool = b;
