@@ -84,7 +84,7 @@ listed_fresh taken freed fresh (old, idle, unused) = (
 
 -- the three facts of a segment's buckets, as a ghost need asks for them
 abbrev pub AllKept : List Bool → List ℕ → ℕ → ℕ → Type 0
-AllKept taken freed fresh room = Counted taken freed fresh room × (Listed taken freed fresh × (Apart freed × Unit {0}))
+AllKept taken freed fresh room = Counted taken freed fresh room × Listed taken freed fresh × Apart freed
 
 -- there is room for one more freed bucket while one is taken
 pub room_give : (taken : List Bool) (freed : List ℕ) (fresh room b : ℕ) → Counted taken freed fresh room → get_or taken b false ≡ true → length freed < room
@@ -95,7 +95,7 @@ room_give taken freed fresh room b (few, many, roomy) e =
 pub kept_give : (p : PoolAllocator) (b : ℕ) {freed' : List ℕ} {room' : ℕ} → freed' ≡ vec_items p.freed ++ b ∷ [] → room' ≡ vec_capacity p.freed
     → get_or (vec_items p.taken) b false ≡ true → AllKept (set (vec_items p.taken) b false) freed' p.fresh room'
 kept_give p b e r t =
-    rw (e, r) (counted_give _ _ _ _ b p.counted t, (listed_give _ _ _ b p.listed t, (apart_give _ _ b p.listed.1 p.apart t, tt)))
+    rw (e, r) (counted_give _ _ _ _ b p.counted t, listed_give _ _ _ b p.listed t, apart_give _ _ b p.listed.1 p.apart t)
 
 -- the last freed bucket is there
 pub last_freed : (p : PoolAllocator) (b : ℕ) (freed' : List ℕ) → vec_items p.freed ≡ freed' ++ b ∷ [] → b < length (vec_items p.taken)
@@ -110,7 +110,7 @@ again_lists taken freed fresh room b freed' e c l a =
     let c' : Counted taken (freed' ++ b ∷ []) fresh room = rw e at c in
     let l' : Listed taken (freed' ++ b ∷ []) fresh = rw e at l in
     let a' : Apart (freed' ++ b ∷ []) = rw e at a in
-    (counted_again taken freed' fresh room b c' l', (listed_again taken freed' fresh b l' a', (apart_again freed' b a', tt)))
+    (counted_again taken freed' fresh room b c' l', listed_again taken freed' fresh b l' a', apart_again freed' b a')
 
 pub kept_again : (p : PoolAllocator) (b : ℕ) (freed' : List ℕ) {room' : ℕ} → vec_items p.freed ≡ freed' ++ b ∷ [] → room' ≡ vec_capacity p.freed
     → AllKept (set (vec_items p.taken) b true) freed' p.fresh room'
@@ -121,7 +121,7 @@ pub kept_fresh : (p : PoolAllocator) (freed' : List ℕ) {room' : ℕ} → vec_i
     → AllKept (set (vec_items p.taken) p.fresh true) freed' (p.fresh + 1) room'
 kept_fresh p freed' e r h =
     let e' : freed' ≡ vec_items p.freed = sym (append-nil freed') ∙ sym e in
-    rw (e', r) (counted_fresh _ _ _ _ p.counted p.listed.2 h, (listed_fresh _ _ _ p.listed, (p.apart, tt)))
+    rw (e', r) (counted_fresh _ _ _ _ p.counted p.listed.2 h, listed_fresh _ _ _ p.listed, p.apart)
 
 -- before the first bucket is taken
 trues_none : (n : ℕ) → trues (replicate n false) ≡ 0
@@ -133,7 +133,8 @@ new_lists n room h =
     let l = length-replicate n false in
     let z = trues_none n in (
       (omega arith, omega arith, omega arith),
-      ((λ k lt. absurd (omega arith), λ k lt. absurd (omega arith), λ i le. grind (arith, get_or-replicate, get_or_past, cases_lt i n)), ((λ j k lt kn same. absurd (omega arith)), tt)),
+      (λ k lt. absurd (omega arith), λ k lt. absurd (omega arith), λ i le. grind (arith, get_or-replicate, get_or_past, cases_lt i n)),
+      λ j k lt kn same. absurd (omega arith),
     )
 
 pub kept_new : (taken : List Bool) (freed : List ℕ) (room n : ℕ) → taken ≡ replicate n false → freed ≡ [] → n ≤ room → AllKept taken freed 0 room

@@ -9,8 +9,6 @@ use crate::pool_allocator::{PoolAllocator, SpareSegment};
 mod calls;
 mod pools;
 
-use crate::dynamic_memory::calls::View;
-
 #[derive(Drop)]
 pub struct DynamicMemory {
     live: Vec<PoolAllocator>,

@@ -6,8 +6,6 @@ use crate::pool_allocator::PoolAllocator;
 
 mod calls;
 
-use crate::static_memory::calls::View;
-
 #[derive(Drop)]
 pub struct StaticMemory {
     pool: PoolAllocator,

@@ -17,7 +17,7 @@ invariant_of-self c =
     let e = pools_set v c.args.segment _ c.give_back.new.self (λ p. gave p c.args.bucket) (omega arith) c.index_mut.ensures.value c.give_back.ensures in
     let l = subst (λ qs. Layout (segments_of qs) s.end s.count) (sym e)
     (layout_pools ps c.args.segment _ s.end s.count (alike_gave (pool_at ps c.args.segment) c.args.bucket) (record { laid = s.laid; rising = s.rising; even = s.even })) in
-    (s.four, (s.room, (s.sized, (l.laid, (l.rising, (l.even, (s.spares, tt)))))))
+    record { four = s.four; room = s.room; sized = s.sized; laid = l.laid; rising = l.rising; even = l.even; spares = s.spares }
 
 pub returns-then-segment-len : goal.returns-then-segment-len
 returns-then-segment-len c =

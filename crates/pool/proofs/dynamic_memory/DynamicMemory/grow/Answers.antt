@@ -20,16 +20,16 @@ invariant_of-self-in-Some c =
     (sym (ap segments_of (grown_pools s c.args.size _ _ _ _ c.push_reserved.ensures.items c.in-Some.ensures.items c.lay.ensures) ∙ map_push (λ (q : Pool). q.buckets) ps (new_pool s.end (rounded c.args.size) s.count))) l in
     let z : rounded c.args.size ≤ 65536 = omega (arith, c.requires) in
     let span : rounded c.args.size * s.count ≤ 65536 * 256 = mul-le-mul z s.sized.4 in
-    let n : vec_len c.push_reserved.new.self ≡ vec_len s.live + 1 = c.push_reserved.ensures.len in (
-      search rules,
-      (
-        search rules,
-        (
-          (omega arith, omega (arith, c.if-span-self.false, s.sized.1), omega (arith, s.sized.2), s.sized.3, s.sized.4),
-          (m.laid, (m.rising, (m.even, (p.0, tt)))),
-        ),
-      ),
-    )
+    let n : vec_len c.push_reserved.new.self ≡ vec_len s.live + 1 = c.push_reserved.ensures.len in
+    record {
+      four = search rules;
+      room = search rules;
+      sized = (omega arith, omega (arith, c.if-span-self.false, s.sized.1), omega (arith, s.sized.2), s.sized.3, s.sized.4);
+      laid = m.laid;
+      rising = m.rising;
+      even = m.even;
+      spares = p.0;
+    }
 
 pub returns-in-None : goal.returns-in-None
 returns-in-None c =

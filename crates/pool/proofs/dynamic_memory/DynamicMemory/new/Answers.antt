@@ -12,13 +12,13 @@ invariant_of-result c =
     let fair = c.if-not-is_fair.ensures in
     let span : size * count ≤ 65536 * 256 = mul-le-mul fair.2 fair.4 in
     let one = layout_one (blank 0 size count) count refl (length-replicate count false) in
-    let l = subst (λ gs. Layout gs (size * count) count) (sym (ap segments_of c.in_ok-live.ensures.0)) one in (
-      search rules,
-      (
-        search rules,
-        (
-          (search rules, search rules, omega (arith, c.in_ok-live.ensures.1), fair.3, fair.4),
-          (l.laid, (l.rising, (l.even, (c.in_ok-spare.ensures.0, tt)))),
-        ),
-      ),
-    )
+    let l = subst (λ gs. Layout gs (size * count) count) (sym (ap segments_of c.in_ok-live.ensures.0)) one in
+    record {
+      four = search rules;
+      room = search rules;
+      sized = (search rules, search rules, omega (arith, c.in_ok-live.ensures.1), fair.3, fair.4);
+      laid = l.laid;
+      rising = l.rising;
+      even = l.even;
+      spares = c.in_ok-spare.ensures.0;
+    }

@@ -9,7 +9,7 @@ pub returns-then-grow : goal.returns-then-grow
 returns-then-grow c =
     let m = c.args.self.now in
     let d = dynamic_of m in
-    let none = c.in-default.ensures in
+    let none = c.in_default.ensures in
     let yes = sym c.if-grow.ensures.value in
     record {
       value = ap Some (c.len-segment.ensures ∙ sym (pools_length m.live))

@@ -13,7 +13,7 @@ invariant_of-self c =
     let e = pools_set v c.args.segment _ c.take.new.self took (omega arith) c.index_mut.ensures.value c.take.ensures.after in
     let l = subst (λ qs. Layout (segments_of qs) s.end s.count) (sym e)
     (layout_pools ps c.args.segment _ s.end s.count (alike_took (pool_at ps c.args.segment)) (record { laid = s.laid; rising = s.rising; even = s.even })) in
-    (s.four, (s.room, (s.sized, (l.laid, (l.rising, (l.even, (s.spares, tt)))))))
+    record { four = s.four; room = s.room; sized = s.sized; laid = l.laid; rising = l.rising; even = l.even; spares = s.spares }
 
 pub returns-then-segment-len : goal.returns-then-segment-len
 returns-then-segment-len c =

@@ -10,7 +10,6 @@ push_reserved-requires c =
     omega arith
 
 pub invariant_of-self : goal.invariant_of-self
-invariant_of-self c = (
-  c.args.self.now.fair,
-  kept_give c.args.self.now c.args.bucket c.push_reserved.ensures.items c.push_reserved.ensures.capacity c.requires,
-)
+invariant_of-self c =
+    let k = kept_give c.args.self.now c.args.bucket c.push_reserved.ensures.items c.push_reserved.ensures.capacity c.requires in
+    record { fair = c.args.self.now.fair; counted = k.0; listed = k.1; apart = k.2 }

@@ -10,10 +10,13 @@ index_mut-requires c =
     omega arith
 
 pub invariant_of-self : goal.invariant_of-self
-invariant_of-self c = (c.args.self.now.fair, kept_again c.args.self.now _ _ c.in-Some.ensures.items c.pop.ensures.capacity)
+invariant_of-self c =
+    let k = kept_again c.args.self.now _ _ c.in-Some.ensures.items c.pop.ensures.capacity in
+    record { fair = c.args.self.now.fair; counted = k.0; listed = k.1; apart = k.2 }
 
 pub invariant_of-self-then-bucket-len : goal.invariant_of-self-then-bucket-len
 invariant_of-self-then-bucket-len c =
     let s = c.args.self.now in
     let l = s.taken.ok.0 in
-    (s.fair, kept_fresh s _ c.in-default.ensures.items c.pop.ensures.capacity (omega arith))
+    let k = kept_fresh s _ c.in_default.ensures.items c.pop.ensures.capacity (omega arith) in
+    record { fair = s.fair; counted = k.0; listed = k.1; apart = k.2 }

@@ -4,4 +4,5 @@ use Rattle.pool.proofs.pool_allocator.SpareSegment.lay.Goals as goal
 pub invariant_of-result : goal.invariant_of-result
 invariant_of-result c =
     let s = c.args.self in
-    (c.requires, kept_new _ _ _ _ s.blank s.unused s.room)
+    let k = kept_new _ _ _ _ s.blank s.unused s.room in
+    record { fair = c.requires; counted = k.0; listed = k.1; apart = k.2 }
