@@ -106,7 +106,7 @@ fn check_refused(
 fn payload_is_the_whole_bucket_of_a_taken_chunk(rt: HostRuntime) -> Result<(), Fail> {
     let m = two_taken(rt.alloc())?;
     let part = told(payload(&m, &BYTES, At(8, 0).offset()))?;
-    assert_eq!(rt; part, &[8, 9, 10, 11, 12, 13, 14, 15]);
+    assert_eq!(rt; part, [8, 9, 10, 11, 12, 13, 14, 15].as_slice());
     Ok(())
 }
 

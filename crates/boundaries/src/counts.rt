@@ -24,30 +24,28 @@ enum Call {
     Counts(At, u64),
 }
 
+// `nth` names the call where it fails.
 fn play<M: data_segment::Memory>(
     rt: &impl Abort,
     m: &mut M,
     counts: &mut SegmentState,
     call: Call,
-) -> Result<(), Fail> {
+    nth: usize,
+) {
     match call {
-        Memory(step) => steps::play(rt, m, step),
-        Borrows(at, n, size) => {
-            assert_eq!(rt; counts.borrow_sample(m, at.offset()), (n, size));
-            Ok(())
-        },
-        Releases(at, n) => {
-            assert_eq!(rt; counts.release_sample(m, at.offset()), n);
-            Ok(())
-        },
-        ReleasesChunk(at, n) => {
-            assert_eq!(rt; counts.release_chunk(m, at.offset()), n);
-            Ok(())
-        },
-        Counts(at, n) => {
-            assert_eq!(rt; counts.reference_count(m, at.offset()), n);
-            Ok(())
-        },
+        Memory(step) => steps::play(rt, m, step, nth),
+        Borrows(at, n, size) => assert_eq!(rt;
+            counts.borrow_sample(m, at.offset()),
+            (n, size),
+            "call {nth}"
+        ),
+        Releases(at, n) => assert_eq!(rt; counts.release_sample(m, at.offset()), n, "call {nth}"),
+        ReleasesChunk(at, n) => assert_eq!(rt;
+            counts.release_chunk(m, at.offset()),
+            n,
+            "call {nth}"
+        ),
+        Counts(at, n) => assert_eq!(rt; counts.reference_count(m, at.offset()), n, "call {nth}"),
     }
 }
 
@@ -57,11 +55,10 @@ fn play_all<M: data_segment::Memory + Drop>(
     mut m: M,
     mut counts: SegmentState,
     calls: &[Call],
-) -> Result<(), Fail> {
+) {
     for (i, call) in calls.iter().enumerate() {
-        play(rt, &mut m, &mut counts, *call).note(format_args!("call {i}"))?;
+        play(rt, &mut m, &mut counts, *call, i);
     }
-    Ok(())
 }
 
 fn in_static(
@@ -72,7 +69,8 @@ fn in_static(
     calls: &[Call],
 ) -> Result<(), Fail> {
     let counts = SegmentState::new(heap, 1, count)?;
-    play_all(rt, StaticMemory::new(heap, size, count)?, counts, calls)
+    play_all(rt, StaticMemory::new(heap, size, count)?, counts, calls);
+    Ok(())
 }
 
 #[test]
@@ -181,5 +179,6 @@ fn a_later_segment_is_counted_from_0(rt: HostRuntime) -> Result<(), Fail> {
         DynamicMemory::new(rt.alloc(), 64, 1, 1000)?,
         counts,
         calls,
-    )
+    );
+    Ok(())
 }

@@ -38,66 +38,42 @@ enum Step {
     Is(bool, bool),
 }
 
-fn play(rt: &impl Abort, q: &mut Queue<Entry, 3>, step: Step) -> Result<(), Fail> {
+// `nth` names the step where it fails.
+fn play(rt: &impl Abort, q: &mut Queue<Entry, 3>, step: Step, nth: usize) {
     match step {
-        Pushes(x) => {
-            assert_eq!(rt; q.push(Entry(x)), Ok(()));
-            Ok(())
-        },
-        HandsBack(x) => {
-            assert_eq!(rt; q.push(Entry(x)), Err(Entry(x)));
-            Ok(())
-        },
-        Overflows(x, out) => {
-            assert_eq!(rt; q.push_with_overflow(Entry(x)), Some(Entry(out)));
-            Ok(())
-        },
-        Pops(x) => {
-            assert_eq!(rt; q.pop(), Some(Entry(x)));
-            Ok(())
-        },
-        Removes(x, found) => {
-            assert_eq!(rt; q.remove(Entry(x)), found);
-            Ok(())
-        },
-        Contains(x, found) => {
-            assert_eq!(rt; q.contains(Entry(x)), found);
-            Ok(())
-        },
-        Gets(i, x) => {
-            assert_eq!(rt; q.get(i).copied(), Some(Entry(x)));
-            Ok(())
-        },
-        GetsNothing(i) => {
-            assert_eq!(rt; q.get(i).copied(), None);
-            Ok(())
-        },
+        Pushes(x) => assert_eq!(rt; q.push(Entry(x)), Ok(()), "step {nth}"),
+        HandsBack(x) => assert_eq!(rt; q.push(Entry(x)), Err(Entry(x)), "step {nth}"),
+        Overflows(x, out) => assert_eq!(rt;
+            q.push_with_overflow(Entry(x)),
+            Some(Entry(out)),
+            "step {nth}"
+        ),
+        Pops(x) => assert_eq!(rt; q.pop(), Some(Entry(x)), "step {nth}"),
+        Removes(x, found) => assert_eq!(rt; q.remove(Entry(x)), found, "step {nth}"),
+        Contains(x, found) => assert_eq!(rt; q.contains(Entry(x)), found, "step {nth}"),
+        Gets(i, x) => assert_eq!(rt; q.get(i).copied(), Some(Entry(x)), "step {nth}"),
+        GetsNothing(i) => assert_eq!(rt; q.get(i).copied(), None, "step {nth}"),
         Restarts(limit, after) => {
             q.restart(limit);
-            assert_eq!(rt; q.limit(), after);
-            Ok(())
+            assert_eq!(rt; q.limit(), after, "step {nth}");
         }
-        Is(empty, full) => {
-            assert_eq!(rt; (q.is_empty(), q.is_full()), (empty, full));
-            Ok(())
-        },
+        Is(empty, full) => assert_eq!(rt; (q.is_empty(), q.is_full()), (empty, full), "step {nth}"),
     }
 }
 
-fn play_all(rt: &impl Abort, q: &mut Queue<Entry, 3>, steps: &[Step]) -> Result<(), Fail> {
+fn play_all(rt: &impl Abort, q: &mut Queue<Entry, 3>, steps: &[Step]) {
     for (i, step) in steps.iter().enumerate() {
-        play(rt, q, *step).note(format_args!("step {i}"))?;
+        play(rt, q, *step, i);
     }
-    Ok(())
 }
 
 // A queue with these entries, oldest first.
-fn check_entries(rt: &impl Abort, q: &mut Queue<Entry, 3>, expected: &[u32]) -> Result<(), Fail> {
+fn check_entries(rt: &impl Abort, q: &mut Queue<Entry, 3>, expected: &[u32]) {
     assert_eq!(rt; q.len(), expected.len());
-    for x in expected {
-        play(rt, q, Pops(*x))?;
+    for (i, x) in expected.iter().enumerate() {
+        play(rt, q, Pops(*x), i);
     }
-    play(rt, q, Is(true, false))
+    play(rt, q, Is(true, false), expected.len());
 }
 
 // A full queue: 1, 2 and 3.
@@ -107,14 +83,15 @@ fn full(rt: &impl Abort, heap: Global) -> Result<Queue<Entry, 3>, Fail> {
         rt,
         &mut q,
         &[Pushes(1), Pushes(2), Pushes(3), Is(false, true)],
-    )?;
+    );
     Ok(q)
 }
 
 fn in_full(rt: &impl Abort, heap: Global, steps: &[Step], left: &[u32]) -> Result<(), Fail> {
     let mut q = full(rt, heap)?;
-    play_all(rt, &mut q, steps)?;
-    check_entries(rt, &mut q, left)
+    play_all(rt, &mut q, steps);
+    check_entries(rt, &mut q, left);
+    Ok(())
 }
 
 #[test]
@@ -183,12 +160,14 @@ fn limit_0_keeps_nothing(rt: HostRuntime) -> Result<(), Fail> {
             Overflows(2, 2),
             GetsNothing(0),
         ],
-    )
+    );
+    Ok(())
 }
 
 #[test]
 fn copies_are_appended_as_far_as_there_is_room(rt: HostRuntime) -> Result<(), Fail> {
     let mut q: Queue<Entry, 3> = Queue::with_limit(rt.alloc(), 2)?;
     full(&rt, rt.alloc())?.append_copies_to(&mut q);
-    check_entries(&rt, &mut q, &[1, 2])
+    check_entries(&rt, &mut q, &[1, 2]);
+    Ok(())
 }

@@ -51,55 +51,37 @@ fn find<M: Memory>(m: &M, segments: usize, at: At) -> Option<usize> {
     M::View::open(segments).translate(m, at.offset())
 }
 
-pub fn play<M: Memory>(rt: &impl Abort, m: &mut M, step: Step) -> Result<(), Fail> {
+// `nth` names the step where it fails.
+pub fn play<M: Memory>(rt: &impl Abort, m: &mut M, step: Step, nth: usize) {
     match step {
-        Step::Gives(size, at) => {
-            assert_eq!(rt; ask(m, size, 1), Ok(at.offset()));
-            Ok(())
-        },
-        Step::Grants(size, align) => {
-            assert!(rt; ask(m, size, align).is_ok());
-            Ok(())
-        },
-        Step::Refuses(size, align, number) => {
-            assert_eq!(rt; ask(m, size, align), Err(by(number)));
-            Ok(())
-        },
-        Step::Frees(at) => {
-            assert_eq!(rt; free(m, at), Ok(()));
-            Ok(())
-        },
-        Step::Keeps(at) => {
-            assert_eq!(rt; free(m, at), Err(by(15)));
-            Ok(())
-        },
-        Step::IsTaken(at, taken) => {
-            assert_eq!(rt; m.is_taken(at.offset()), taken);
-            Ok(())
-        },
-        Step::Segments(n) => {
-            assert_eq!(rt; m.number_of_segments(), n);
-            Ok(())
-        },
-        Step::Segment(k, start, size, buckets) => {
-            assert_eq!(rt;
-                (m.start(k), m.bucket_size(k), m.number_of_buckets(k)),
-                (Some(start), size, buckets)
-            );
-            Ok(())
-        },
-        Step::Views(segments, at, place) => {
-            assert_eq!(rt; find(m, segments, at), place);
-            Ok(())
-        },
+        Step::Gives(size, at) => assert_eq!(rt; ask(m, size, 1), Ok(at.offset()), "step {nth}"),
+        Step::Grants(size, align) => assert!(rt; ask(m, size, align).is_ok(), "step {nth}"),
+        Step::Refuses(size, align, number) => assert_eq!(rt;
+            ask(m, size, align),
+            Err(by(number)),
+            "step {nth}"
+        ),
+        Step::Frees(at) => assert_eq!(rt; free(m, at), Ok(()), "step {nth}"),
+        Step::Keeps(at) => assert_eq!(rt; free(m, at), Err(by(15)), "step {nth}"),
+        Step::IsTaken(at, taken) => assert_eq!(rt; m.is_taken(at.offset()), taken, "step {nth}"),
+        Step::Segments(n) => assert_eq!(rt; m.number_of_segments(), n, "step {nth}"),
+        Step::Segment(k, start, size, buckets) => assert_eq!(rt;
+            (m.start(k), m.bucket_size(k), m.number_of_buckets(k)),
+            (Some(start), size, buckets),
+            "step {nth}"
+        ),
+        Step::Views(segments, at, place) => assert_eq!(rt;
+            find(m, segments, at),
+            place,
+            "step {nth}"
+        ),
     }
 }
 
-fn play_all<M: Memory>(rt: &impl Abort, m: &mut M, steps: &[Step]) -> Result<(), Fail> {
+fn play_all<M: Memory>(rt: &impl Abort, m: &mut M, steps: &[Step]) {
     for (i, step) in steps.iter().enumerate() {
-        play(rt, m, *step).note(format_args!("step {i}"))?;
+        play(rt, m, *step, i);
     }
-    Ok(())
 }
 
 // On a new static memory.
@@ -111,7 +93,8 @@ pub fn in_static(
     steps: &[Step],
 ) -> Result<(), Fail> {
     let mut m = StaticMemory::new(heap, size, count)?;
-    play_all(rt, &mut m, steps)
+    play_all(rt, &mut m, steps);
+    Ok(())
 }
 
 // On a new dynamic memory.
@@ -124,5 +107,6 @@ pub fn in_dynamic(
     steps: &[Step],
 ) -> Result<(), Fail> {
     let mut m = DynamicMemory::new(heap, size, count, capacity)?;
-    play_all(rt, &mut m, steps)
+    play_all(rt, &mut m, steps);
+    Ok(())
 }
