@@ -1,8 +1,8 @@
 -- A new link, with the history that it gets, keeps a publisher in order.
-use Rattle.std.proofs.Common.{◌≡◌, ℕ, zero, suc, ◌+◌, ◌-◌, ◌<◌, ◌≤◌, Bool, true, false, cond, ◌&&◌, eqb, ltb, ◌⊎◌, List, [], ◌∷◌, ◌++◌, length, get_or, drop, set, is_some, Some, None, Ok, Err, fold, sum_by, Option, Result, sym, refl, ap, ◌∙◌, subst, inl, inr, ⊎_elim, arith, MatchOption}
+use Rattle.std.proofs.Common.{◌≡◌, ℕ, zero, suc, ◌+◌, ◌-◌, ◌<◌, ◌≤◌, true, false, ◌&&◌, eqb, ltb, ◌⊎◌, List, [], ◌∷◌, ◌++◌, length, get_or, drop, set, is_some, Some, None, Ok, Err, fold, Option, Result, sym, refl, ap, ◌∙◌, subst, inl, inr, ⊎_elim, arith, MatchOption}
 use Rattle.std.proofs.lemmas.List.{get_or-set_same, get_or-set_other, length-set}
 use Rattle.std.proofs.lemmas.List.Sums.{sum_by-set}
-use Rattle.std.proofs.lemmas.Bool.{cases_Bool, cases_eq, cases_lt, cond-true, cond-false, lt-ltb, le-ltb, ltb-false, and_parts, and_from, eq-eqb, eqb-true, false≢true}
+use Rattle.std.proofs.lemmas.Bool.{cases_Bool, cases_eq, cases_lt, cond-true, cond-false, lt-ltb, ltb-false, and_parts, and_from, eq-eqb, eqb-true, false≢true}
 use Rattle.elementary.specs.Ids.{same_port}
 use Rattle.elementary.specs.declared.port_id.PortId.{PortId}
 use Rattle.elementary.specs.declared.pointer_offset.PointerOffset.{PointerOffset}
@@ -17,16 +17,15 @@ use Rattle.elementary.specs.declared.error.ZeroCopyCreationError.{ZeroCopyCreati
 use Rattle.elementary.specs.declared.error.ZeroCopyCreationError.TheVariants as creating
 use Rattle.rules.specs.Pools.{by}
 use Rattle.rules.specs.Links.{Link, attached, never, next_standing, stepped, fresh, listed, times}
-use Rattle.rules.specs.Bank.{Places, at, sends, between, agree, connects, join_fault, first, bad_buffer, bad_borrow, create_fault, MayTake, created, is_empty, SafeBank}
-use Rattle.rules.specs.Publisher.{Connection, Pub, Side, slot_at, with_slots, wanted, connect_fault, taken_up, handed, last_of, connected, Connects, reclaimed_all}
-use Rattle.rules.specs.Books.{mine, held_here, held_by, Books, owns, Wired, InOrder}
-use Rattle.rules.proofs.Offsets.{one, times_cons, times_append}
-use Rattle.rules.proofs.Banks.{Creatable, creatable, found_link, first_found}
+use Rattle.rules.specs.Bank.{Places, at, sends, between, agree, connects, join_fault, first, create_fault, MayTake, SafeBank}
+use Rattle.rules.specs.Publisher.{Connection, Side, slot_at, with_slots, wanted, connect_fault, taken_up, handed, last_of, connected, Connects, reclaimed_all}
+use Rattle.rules.specs.Books.{mine, held_here, held_by, owns, Wired, InOrder}
+use Rattle.rules.proofs.Offsets.{one, times_cons}
+use Rattle.rules.proofs.Banks.{creatable, found_link, first_found}
 use Rattle.rules.proofs.Safe.{safe_created, never_attached}
-use Rattle.rules.proofs.Views.{same_port_refl, own_details, none_held, foreign, not_mine, unmoved_refl, unmoved_set}
+use Rattle.rules.proofs.Views.{same_port_refl, own_details, none_held, foreign, not_mine, unmoved_set}
 use Rattle.rules.proofs.Passages.{Passage, Fits, shape_refl, passage_refl, passage_trans}
 use Rattle.rules.proofs.Reclaims.{reclaiming, reclaiming_passes, reclaimed_slots}
-use Rattle.rules.proofs.Removes.{slot_there}
 use Rattle.rules.proofs.Posts.{Posted, posted}
 
 -- THE NEW LINK

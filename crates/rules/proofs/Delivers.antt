@@ -1,7 +1,7 @@
 -- A send keeps a publisher in order.
-use Rattle.std.proofs.Common.{◌≡◌, ℕ, zero, suc, ◌+◌, ◌<◌, ◌≤◌, Bool, true, false, cond, eqb, ltb, List, [], ◌∷◌, ◌++◌, length, get_or, is_some, Some, None, Ok, Err, Option, Result, sym, refl, ap, ◌∙◌, subst, ⊎_elim, arith}
+use Rattle.std.proofs.Common.{◌≡◌, ℕ, suc, ◌+◌, ◌<◌, ◌≤◌, Bool, true, false, cond, eqb, ltb, List, [], ◌∷◌, ◌++◌, get_or, Some, None, Ok, Err, Option, Result, sym, refl, ap, ◌∙◌, subst, ⊎_elim, arith}
 use Rattle.std.specs.Option.{option_to_list}
-use Rattle.std.proofs.lemmas.Bool.{cases_Bool, cases_eq, cond-true, cond-false, eq-eqb, ne_eqb, false≢true}
+use Rattle.std.proofs.lemmas.Bool.{cases_eq, cond-true, cond-false, eq-eqb, ne_eqb, false≢true}
 use Rattle.container.specs.Queue.{without, overflowed, evicted}
 use Rattle.elementary.specs.Ids.{same_chunk}
 use Rattle.elementary.specs.declared.pointer_offset.PointerOffset.{PointerOffset}
@@ -18,19 +18,19 @@ use Rattle.elementary.specs.declared.error.ZeroCopySendError.TheVariants as send
 use Rattle.elementary.specs.declared.error.SendError.{SendError}
 use Rattle.elementary.specs.declared.error.SendError.TheVariants as send
 use Rattle.rules.specs.Links.{times}
-use Rattle.rules.specs.Bank.{Goes, Places, at, sends, Turned, SafeBank}
-use Rattle.rules.specs.Publisher.{Connection, Pub, Side, slot_at, with_history, with_loans, hold, let_go, let_go_if, reclaimed_all, is_live, unloaned, noted, Updates, Going, Verdict, accepts, passes, fails, tries_again, Handler, followed, acted, within_budget, degraded, has_receiver, judged, verdict, ended, with_links, Tries, tried, turned, Rounds, done, skipped, stopped, next, Delivers, spent, Posts, Sends}
-use Rattle.rules.specs.Books.{count_of, held_by, Books, InOrder}
+use Rattle.rules.specs.Bank.{Goes, Places, sends, Turned, SafeBank}
+use Rattle.rules.specs.Publisher.{Connection, Pub, Side, slot_at, with_history, with_loans, hold, let_go, let_go_if, reclaimed_all, is_live, noted, Updates, Going, Verdict, accepts, passes, fails, tries_again, Handler, followed, acted, within_budget, degraded, has_receiver, judged, ended, with_links, Tries, tried, turned, Rounds, done, skipped, stopped, next, Delivers, spent, Posts, Sends}
+use Rattle.rules.specs.Books.{count_of, Books, InOrder}
 use Rattle.rules.proofs.Offsets.{one, times_cons, times_append, without_times, overflowed_times}
 use Rattle.rules.proofs.Keep.{holding, letting_go}
 use Rattle.rules.proofs.Holdings.{stir_turned}
 use Rattle.rules.proofs.Views.{unmoved_held, unmoved_order}
 use Rattle.rules.proofs.Passages.{Passage, passage_refl, passage_trans, passage_hold, evict, passage_evict, passage_let_go, passage_links, fits_unmoved, Course, course, course_trans, course_lists}
 use Rattle.rules.proofs.Reclaims.{in_hand, reclaiming, reclaiming_passes, reclaimed_slots}
-use Rattle.rules.proofs.Lends.{goes, reloaned}
+use Rattle.rules.proofs.Lends.{reloaned}
 use Rattle.rules.proofs.Removes.{rewired}
 use Rattle.rules.proofs.Posts.{Posted, if_slots, overflowed_evicted, held_few}
-use Rattle.rules.proofs.Connects.{take_up, Joined}
+use Rattle.rules.proofs.Connects.{take_up}
 use Rattle.rules.proofs.Updates.{updating}
 
 -- ONE TRY

@@ -1,5 +1,5 @@
 -- What every step of a publisher's call leaves as it was, beside its books.
-use Rattle.std.proofs.Common.{◌≡◌, ℕ, ◌+◌, ◌*◌, ◌/◌, ◌%◌, ◌^◌, ◌<◌, ◌≤◌, Bool, true, false, cond, ◌&&◌, eqb, ltb, ◌⊎◌, List, [], ◌∷◌, ◌++◌, length, Some, None, Option, sym, refl, ap, ◌∙◌, subst, ⊎_elim, arith}
+use Rattle.std.proofs.Common.{◌≡◌, ℕ, ◌+◌, ◌*◌, ◌/◌, ◌%◌, ◌^◌, ◌<◌, ◌≤◌, Bool, false, ◌&&◌, eqb, ltb, ◌⊎◌, List, [], ◌∷◌, ◌++◌, length, Some, None, Option, sym, refl, ap, ◌∙◌, subst, ⊎_elim, arith}
 use Rattle.std.specs.Option.{option_to_list}
 use Rattle.std.proofs.lemmas.List.{length-set}
 use Rattle.std.proofs.lemmas.Bool.{cases_Bool, cases_eq, cond-true, cond-false, ne_eqb}
@@ -7,7 +7,7 @@ use Rattle.elementary.specs.Ids.{same_port, distance, segment}
 use Rattle.elementary.specs.declared.port_id.PortId.{PortId}
 use Rattle.elementary.specs.declared.pointer_offset.PointerOffset.{PointerOffset}
 use Rattle.elementary.specs.declared.link.LinkDetails.{LinkDetails}
-use Rattle.rules.specs.Memory.{Mem, Segment, Sound, IsMemory, Shaped, Fair, segment_at, home, bucket, is_chunk, taken_at, marked, remarked, with_segments, freed, end_of}
+use Rattle.rules.specs.Memory.{Mem, IsMemory, Shaped, Fair, segment_at, home, bucket, is_chunk, taken_at, marked, remarked, with_segments, freed, end_of}
 use Rattle.rules.specs.Counts.{Chunks, count_at, released}
 use Rattle.rules.specs.Bytes.{place, room}
 use Rattle.rules.specs.Bank.{Places, at, SafeBank}

@@ -2,7 +2,7 @@
 use Rattle.std.proofs.Common.{◌≡◌, ℕ, ◌+◌, ◌≤◌, Bool, true, false, cond, ◌&&◌, ltb, List, [], ◌∷◌, ◌++◌, length, set, is_some, is_ok, Some, None, Err, fold, Option, sym, refl, ap, ◌∙◌, subst, ⊎_elim, arith}
 use Rattle.std.specs.Option.{option_to_list}
 use Rattle.std.proofs.lemmas.Bool.{cond-true, cond-false, cond_both, false≢true}
-use Rattle.container.specs.Queue.{oldest, later, without, has}
+use Rattle.container.specs.Queue.{oldest, later, has}
 use Rattle.elementary.specs.Ids.{same_chunk}
 use Rattle.elementary.specs.declared.pointer_offset.PointerOffset.{PointerOffset}
 use Rattle.elementary.specs.declared.link.LinkDetails.{LinkDetails}
@@ -15,10 +15,10 @@ use Rattle.elementary.specs.declared.link.Mark.{Mark}
 use Rattle.elementary.specs.declared.error.ZeroCopySendError.TheVariants as sending
 use Rattle.elementary.specs.declared.error.ZeroCopyReleaseError.TheVariants as releasing
 use Rattle.rules.specs.Pools.{by}
-use Rattle.rules.specs.Links.{Link, Proper, times, attached, never, next_standing, standing, stepped, fresh, can_borrow, most_returned, send_answer, send_after, reclaim_after, receive_after, release_fault, release_after}
-use Rattle.rules.specs.Bank.{Places, at, changed, sent, reclaimed, received, given_back, kept, create_fault, MayTake, created, detached, Move, receive_at, release_at, moved, Turned, with_mark, SetsMark, SoundBank, Unsent, SafeBank, Lasts, StaysSound, StaysSafe}
+use Rattle.rules.specs.Links.{Link, Proper, times, attached, never, next_standing, stepped, fresh, can_borrow, most_returned, send_answer, send_after, reclaim_after, receive_after, release_fault, release_after}
+use Rattle.rules.specs.Bank.{Places, at, changed, sent, reclaimed, create_fault, MayTake, created, detached, Move, receive_at, release_at, moved, Turned, with_mark, SetsMark, SoundBank, Unsent, SafeBank, StaysSound, StaysSafe}
 use Rattle.rules.specs.Publisher.{cleared}
-use Rattle.rules.proofs.Banks.{proper_lists, before, changed_at, set_place, left_of, marking_by, sound_changed, sound_sent, sound_reclaimed, sound_moved, sound_turned, sound_created, sound_detached, sound_marked, stays_sound}
+use Rattle.rules.proofs.Banks.{proper_lists, before, changed_at, set_place, left_of, marking_by, sound_changed, sound_sent, sound_reclaimed, sound_moved, sound_created, sound_detached, stays_sound}
 
 -- ONE LINK
 

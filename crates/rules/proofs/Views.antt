@@ -1,5 +1,5 @@
 -- What a publisher sees of the bank: its own links, and what they hold.
-use Rattle.std.proofs.Common.{◌≡◌, ℕ, zero, suc, ◌+◌, ◌<◌, ◌≤◌, Bool, true, false, cond, ◌&&◌, eqb, List, [], ◌∷◌, length, get_or, set, is_some, Some, None, sum_by, Option, sym, refl, ap, ◌∙◌, subst, ⊎_elim, arith}
+use Rattle.std.proofs.Common.{◌≡◌, ℕ, zero, suc, Bool, true, false, cond, ◌&&◌, eqb, List, [], ◌∷◌, set, is_some, Some, None, sum_by, Option, sym, refl, ap, ◌∙◌, ⊎_elim, arith}
 use Rattle.std.specs.Option.{option_map}
 use Rattle.std.proofs.lemmas.List.Sums.{sum_by-cons}
 use Rattle.std.proofs.lemmas.Bool.{cases_Bool, cond-true, cond-false, and_parts, and_from, eq-eqb, eqb-true, false≢true}
@@ -10,9 +10,9 @@ use Rattle.elementary.specs.declared.link.LinkDetails.{LinkDetails}
 use Rattle.rules.specs.Pools.{by}
 use Rattle.rules.specs.Links.{Link, attached, listed, times}
 use Rattle.rules.specs.Bank.{Places, at, changed}
-use Rattle.rules.specs.Publisher.{Connection, Pub, Side}
-use Rattle.rules.specs.Holdings.{owned, holding, Keeps, HeldSame}
-use Rattle.rules.specs.Books.{mine, held_here, held_by, Books, owns, Wired, InOrder}
+use Rattle.rules.specs.Publisher.{Pub}
+use Rattle.rules.specs.Holdings.{owned, holding, HeldSame}
+use Rattle.rules.specs.Books.{mine, held_here, held_by, owns, Wired, InOrder}
 use Rattle.rules.proofs.Keep.{moving}
 
 -- PORT IDS

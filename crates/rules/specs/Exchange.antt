@@ -24,7 +24,7 @@ use Rattle.rules.specs.Memory.{placed, taken_at}
 use Rattle.elementary.specs.Settings.{publisher_in_range, subscriber_in_range}
 use Rattle.rules.specs.Bytes.{place, room, read_fault}
 use Rattle.rules.specs.Pools.{by}
-use Rattle.rules.specs.Links.{Link, attached}
+use Rattle.rules.specs.Links.{attached}
 use Rattle.rules.specs.Bank.{Goes, Places, at, changed, with_mark, Marked}
 use Rattle.rules.specs.Publisher as publisher
 use Rattle.rules.specs.Publisher.{Pub, Side, Handler}

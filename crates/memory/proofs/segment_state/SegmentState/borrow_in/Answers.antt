@@ -1,4 +1,4 @@
-use Rattle.std.proofs.Common.{◌-◌, get_or, set, sym, ap, ◌∙◌, arith}
+use Rattle.std.proofs.Common.{get_or, set, sym, ap, ◌∙◌, arith}
 use Rattle.rules.specs.Counts.{raised}
 use Rattle.memory.proofs.Rows.{row_at, row_past, rows_same, rows_changed}
 use Rattle.memory.proofs.segment_state.SegmentState.borrow_in.Goals as goal
