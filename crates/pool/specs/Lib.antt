@@ -6,3 +6,4 @@ pub mod Dynamic
 pub mod Dynamics
 pub mod Nexts
 pub mod Layouts
+pub mod Statics

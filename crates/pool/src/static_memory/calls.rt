@@ -4,7 +4,7 @@ ghost use Rattle.std.specs.Result.{result_err};
 ghost use Rattle.rules.specs.Memory.{allocation_fault, Allocates, deallocation_fault, freed};
 ghost use Rattle.rules.specs.Pools.{static_mem, static_answer, static_after, static_freed};
 ghost use Rattle.pool.specs.Static.{static_of, MakesStatic};
-ghost use Rattle.std.proofs.Common.{rules, arith};
+ghost use Rattle.pool.specs.Statics.{static_sound};
 
 use crate::pool_allocator::PoolAllocator;
 use crate::request::{check_request, is_fair};
@@ -46,7 +46,7 @@ impl Segmented for StaticMemory {
 
     ghost limit = { 1 };
 
-    ghost sound = { first_of (Prim.search rules, Prim.grind (arith, Self.row.coded.inj)) };
+    ghost sound = { static_sound };
 
     fn number_of_segments(&self) -> usize {
         1
