@@ -97,7 +97,7 @@ pub trait Bank: Links {
         ensures fault { result_err result ≡ detach_fault End.Receiver (Self.Links.links self.old) place }
         ensures after { Self.Links.links self.new ≡ detached End.Receiver (Self.Links.links self.old) place };
 
-    // Receives and releases on any links, and nothing else.
+    // Time for the receivers: some list of their moves is made, on whichever links.
     fn turn(&mut self)
         ensures { Turned (Self.Links.links self.old) (Self.Links.links self.new) };
 
