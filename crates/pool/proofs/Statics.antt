@@ -11,7 +11,7 @@ use Rattle.rules.specs.Pools.{Pool, by, next, took, took_next, checked, handed, 
 use Rattle.rules.proofs.Chunks.{takes_bucket}
 use Rattle.pool.specs.Static.{static_of}
 use Rattle.pool.specs.declared.static_memory.StaticMemory.{StaticMemory}
-use Rattle.pool.specs.Nexts.{next_some, next_none, free_found, granted}
+use Rattle.pool.proofs.Nexts.{next_some, next_none, free_found, granted}
 
 -- whether a request is refused for want of memory, by whether a bucket is free
 enough : (large free : Bool) → large ≡ true → free ≡ true → None ≡ cond (((large && free) || false) || false) None (Some OutOfMemory)

@@ -3,7 +3,4 @@ pub mod Model
 pub mod Static
 pub mod Layout
 pub mod Dynamic
-pub mod Dynamics
-pub mod Nexts
-pub mod Layouts
-pub mod Statics
+pub mod Soundness

@@ -4,7 +4,7 @@ ghost use Rattle.std.specs.Result.{result_err};
 ghost use Rattle.rules.specs.Memory.{allocation_fault, Allocates, deallocation_fault, freed};
 ghost use Rattle.rules.specs.Pools.{dynamic_mem, dynamic_answer, dynamic_after, dynamic_freed};
 ghost use Rattle.pool.specs.Dynamic.{dynamic_of};
-ghost use Rattle.pool.specs.Dynamics.{dynamic_sound};
+ghost use Rattle.pool.specs.Soundness.{dynamic_sound};
 
 use crate::dynamic_memory::{DynamicMemory, DynamicView};
 use elementary::error::{AllocationError, DeallocationError};

@@ -4,7 +4,7 @@ ghost use Rattle.std.specs.Result.{result_err};
 ghost use Rattle.rules.specs.Memory.{allocation_fault, Allocates, deallocation_fault, freed};
 ghost use Rattle.rules.specs.Pools.{static_mem, static_answer, static_after, static_freed};
 ghost use Rattle.pool.specs.Static.{static_of, MakesStatic};
-ghost use Rattle.pool.specs.Statics.{static_sound};
+ghost use Rattle.pool.specs.Soundness.{static_sound};
 
 use crate::pool_allocator::PoolAllocator;
 use crate::request::{check_request, is_fair};

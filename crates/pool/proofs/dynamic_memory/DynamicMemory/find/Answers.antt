@@ -2,8 +2,9 @@ use Rattle.std.proofs.Common.{vec_items, sym, ap, ◌∙◌, arith}
 use Rattle.std.proofs.lemmas.Bool.{cond-true, cond-false}
 use Rattle.rules.specs.Pools.{fits}
 use Rattle.pool.specs.Model.{pools_in}
-use Rattle.pool.specs.Layouts.{pool_there, pools_length}
-use Rattle.pool.specs.Dynamics.{fitting_step, fitting_end}
+use Rattle.pool.specs.Soundness.{pools_length}
+use Rattle.pool.proofs.Layouts.{pool_there}
+use Rattle.pool.proofs.Dynamics.{fitting_step, fitting_end}
 use Rattle.pool.proofs.dynamic_memory.DynamicMemory.find.Goals as goal
 
 pub returns-then-serves : goal.returns-then-serves

@@ -2,7 +2,7 @@ use Rattle.std.proofs.Common.{false, get_or, vec_items, sym, ap, ◌∙◌, subs
 use Rattle.rules.specs.Pools.{Pool, gave, pool_at, segments_of, with_pools}
 use Rattle.pool.specs.Model.{pools_in}
 use Rattle.pool.specs.Dynamic.{dynamic_of}
-use Rattle.pool.specs.Layouts.{Layout, pool_there, pools_set, pools_same, layout_pools, alike_gave}
+use Rattle.pool.proofs.Layouts.{Layout, pool_there, pools_set, pools_same, layout_pools, alike_gave}
 use Rattle.pool.proofs.dynamic_memory.DynamicMemory.give_in.Goals as goal
 
 pub give_back-requires : goal.give_back-requires

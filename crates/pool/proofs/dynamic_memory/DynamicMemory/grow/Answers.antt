@@ -5,8 +5,9 @@ use Rattle.rules.specs.Memory.{blank}
 use Rattle.rules.specs.Pools.{Pool, Dynamic, new_pool, rounded, segments_of, can_grow, grown}
 use Rattle.pool.specs.Model.{pools_in}
 use Rattle.pool.specs.Dynamic.{dynamic_of}
-use Rattle.pool.specs.Layouts.{Layout, layout_push, pools_length, spares_pop}
-use Rattle.pool.specs.Dynamics.{grown_pools}
+use Rattle.pool.specs.Soundness.{pools_length}
+use Rattle.pool.proofs.Layouts.{Layout, layout_push, spares_pop}
+use Rattle.pool.proofs.Dynamics.{grown_pools}
 use Rattle.pool.proofs.dynamic_memory.DynamicMemory.grow.Goals as goal
 
 pub invariant_of-self-in-Some : goal.invariant_of-self-in-Some

@@ -2,7 +2,7 @@ use Rattle.std.proofs.Common.{◌*◌, ◌≤◌, false, sym, refl, ap, subst, m
 use Rattle.std.proofs.lemmas.List.{length-replicate}
 use Rattle.rules.specs.Memory.{blank}
 use Rattle.rules.specs.Pools.{segments_of}
-use Rattle.pool.specs.Layouts.{Layout, layout_one}
+use Rattle.pool.proofs.Layouts.{Layout, layout_one}
 use Rattle.pool.proofs.dynamic_memory.DynamicMemory.new.Goals as goal
 
 pub invariant_of-result : goal.invariant_of-result

@@ -2,7 +2,8 @@ use Rattle.std.proofs.Common.{◌<◌, ◌≤◌, length, vec_items, sym, ap, �
 use Rattle.std.proofs.lemmas.Bool.{lt-ltb, le-ltb}
 use Rattle.rules.specs.Pools.{Pool, segments_of}
 use Rattle.pool.specs.Model.{pools_in}
-use Rattle.pool.specs.Layouts.{pool_there, pool_past, pools_length, segments_at, segments_length}
+use Rattle.pool.specs.Soundness.{pools_length, segments_at, segments_length}
+use Rattle.pool.proofs.Layouts.{pool_there, pool_past}
 use Rattle.pool.proofs.dynamic_memory.DynamicMemory.pool.Goals as goal
 
 pub returns-then-segment-len : goal.returns-then-segment-len

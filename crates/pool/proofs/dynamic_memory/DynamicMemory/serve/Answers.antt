@@ -2,7 +2,7 @@ use Rattle.std.proofs.Common.{cond, length, Some, None, sym, ap, ◌∙◌}
 use Rattle.std.proofs.lemmas.Bool.{cond-true}
 use Rattle.rules.specs.Pools.{by, can_grow, grown}
 use Rattle.pool.specs.Dynamic.{dynamic_of}
-use Rattle.pool.specs.Layouts.{pools_length}
+use Rattle.pool.specs.Soundness.{pools_length}
 use Rattle.pool.proofs.dynamic_memory.DynamicMemory.serve.Goals as goal
 
 pub returns-then-grow : goal.returns-then-grow

@@ -1,5 +1,5 @@
 use Rattle.std.proofs.Common.{◌*◌, ◌≤◌, vec_items, sym, subst, arith}
-use Rattle.pool.specs.Dynamics.{Ready, ready, ready_small}
+use Rattle.pool.proofs.Dynamics.{Ready, ready, ready_small}
 use Rattle.pool.proofs.dynamic_memory.DynamicMemory.take_at.Goals as goal
 
 taking : (c : goal.In-Some) → Ready (vec_items c.args.self.now.live) c.args.segment c.in-Some.bucket

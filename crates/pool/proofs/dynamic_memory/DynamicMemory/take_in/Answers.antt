@@ -2,7 +2,7 @@ use Rattle.std.proofs.Common.{vec_items, sym, ap, ◌∙◌, subst, arith}
 use Rattle.rules.specs.Pools.{next, took, pool_at, segments_of, with_pools}
 use Rattle.pool.specs.Model.{pools_in}
 use Rattle.pool.specs.Dynamic.{dynamic_of}
-use Rattle.pool.specs.Layouts.{Layout, pool_there, pool_past, pools_set, pools_same, layout_pools, alike_took}
+use Rattle.pool.proofs.Layouts.{Layout, pool_there, pool_past, pools_set, pools_same, layout_pools, alike_took}
 use Rattle.pool.proofs.dynamic_memory.DynamicMemory.take_in.Goals as goal
 
 pub invariant_of-self : goal.invariant_of-self

@@ -1,5 +1,5 @@
 use Rattle.std.proofs.Common.{vec_items, rules}
-use Rattle.pool.specs.Layouts.{spares_push}
+use Rattle.pool.proofs.Layouts.{spares_push}
 use Rattle.pool.proofs.dynamic_memory.pools.three_spares.Goals as goal
 
 pub loop-k-preserved : goal.loop-k-preserved

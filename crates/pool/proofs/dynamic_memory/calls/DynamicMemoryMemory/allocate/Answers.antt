@@ -3,7 +3,7 @@ use Rattle.std.specs.Result.{result_err}
 use Rattle.rules.specs.Memory.{Allocates}
 use Rattle.rules.specs.Pools.{dynamic_mem, dynamic_answer}
 use Rattle.pool.specs.Dynamic.{dynamic_of}
-use Rattle.pool.specs.Dynamics.{dynamic_allocates}
+use Rattle.pool.proofs.Dynamics.{dynamic_allocates}
 use Rattle.pool.proofs.dynamic_memory.calls.DynamicMemoryMemory.allocate.Goals as goal
 
 pub returns : goal.returns

@@ -1,5 +1,5 @@
 -- What a change of one segment, or one segment more, leaves of a dynamic memory's layout.
-use Rattle.std.specs.Prelude.{◌≡◌, ℕ, zero, suc, ◌+◌, ◌*◌, ◌<◌, ◌≤◌, List, [], ◌∷◌, ◌++◌, map, length, set, Some, None, vec_items, vec_len, Option, Vec, slice_index, slice_index_or, slice_set, refl}
+use Rattle.std.specs.Prelude.{◌≡◌, ℕ, ◌+◌, ◌*◌, ◌<◌, ◌≤◌, List, [], ◌∷◌, ◌++◌, map, length, set, Some, None, vec_items, vec_len, Option, Vec, slice_index, slice_index_or, slice_set, refl}
 use Rattle.std.proofs.Common.{sym, ◌∙◌, ap, subst, ⊎_elim, arith, zero-add}
 use Rattle.std.specs.declared.alloc.Global.{Global}
 use Rattle.std.proofs.lemmas.List.{get_or-set_same, get_or-set_other, set_past, length-set, get_or-map, get_or_past, length-map, map-set, map_push, length_push, get_or_append_left, get_or_push}
@@ -10,6 +10,7 @@ use Rattle.pool.specs.Model.{pool_of, pools_in, spare_count}
 use Rattle.pool.specs.Layout.{Laid, Rising, Even, Spares}
 use Rattle.pool.specs.declared.pool_allocator.PoolAllocator.{PoolAllocator}
 use Rattle.pool.specs.declared.pool_allocator.SpareSegment.{SpareSegment}
+use Rattle.pool.specs.Soundness.{pools_length, segments_at}
 
 -- THE CODE'S LIST OF POOLS, READ AT ONE
 
@@ -18,20 +19,8 @@ pool_there v s x lt e =
     let h : s < length (vec_items v) = omega (arith, v.ok.0) in
     get_or-map pool_of (vec_items v) s x no_pool h ∙ ap pool_of (sym e)
 
-pub pools_length : (v : Vec PoolAllocator Global) → length (pools_in (vec_items v)) ≡ vec_len v
-pools_length v = length-map (vec_items v) pool_of ∙ sym v.ok.0
-
 pub pool_past : (v : Vec PoolAllocator Global) (s : ℕ) → vec_len v ≤ s → pool_at (pools_in (vec_items v)) s ≡ no_pool
 pool_past v s le = let n = pools_length v in get_or_past (pools_in (vec_items v)) s no_pool (omega arith)
-
--- and its segments
-pub segments_at : (ps : List Pool) (s : ℕ) → segment_at (segments_of ps) s ≡ (pool_at ps s).buckets
-segments_at [] s = refl
-segments_at (p ∷ ps) zero = refl
-segments_at (p ∷ ps) (suc s) = segments_at ps s
-
-pub segments_length : (ps : List Pool) → length (segments_of ps) ≡ length ps
-segments_length ps = length-map ps (λ p. p.buckets)
 
 -- LAYOUT
 

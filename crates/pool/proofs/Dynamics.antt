@@ -1,5 +1,5 @@
 -- A dynamic memory's calls, in the words that hold of every memory.
-use Rattle.std.specs.Prelude.{◌≡◌, ℕ, zero, suc, ◌+◌, ◌-◌, ◌*◌, ◌<◌, ◌≤◌, Bool, true, false, cond, ◌&&◌, ◌||◌, ◌⊎◌, List, [], ◌∷◌, ◌++◌, length, get_or, drop, replicate, is_some, Some, None, Err, vec_items, vec_len, Option, nat_le, nat_lt, slice_index_or, slice_set, refl}
+use Rattle.std.specs.Prelude.{◌≡◌, ℕ, zero, suc, ◌+◌, ◌-◌, ◌*◌, ◌<◌, ◌≤◌, Bool, true, false, cond, ◌&&◌, ◌||◌, ◌⊎◌, List, [], ◌∷◌, ◌++◌, length, get_or, drop, replicate, is_some, Some, None, Err, vec_items, Option, nat_le, nat_lt, slice_index_or, slice_set, refl}
 use Rattle.std.proofs.Common.{sym, ◌∙◌, ap, subst, inl, inr, ⊎_elim, arith, mul-le-mul}
 use Rattle.std.specs.Result.{result_err}
 use Rattle.std.proofs.lemmas.List.{drop_more, drop_all, map-set, map_push, get_or_push, length-replicate, get_or-replicate, length-set}
@@ -9,7 +9,7 @@ use Rattle.std.proofs.lemmas.Bool.Decides.{nat_tests}
 use Rattle.elementary.specs.Ids.{packed, segment}
 use Rattle.elementary.specs.declared.error.AllocationError.{AllocationError}
 use Rattle.elementary.specs.declared.error.AllocationError.TheVariants.{OutOfMemory}
-use Rattle.rules.specs.Memory.{Segment, Sound, Fair, segment_at, some_free, request_fault, else_fault, allocation_fault, Allocates, Takes, Grows, remarked, with_segments, blank, marked, freed, taken_at, bucket, bucket_at}
+use Rattle.rules.specs.Memory.{Segment, Fair, segment_at, some_free, request_fault, else_fault, allocation_fault, Allocates, Takes, Grows, remarked, with_segments, blank, marked, freed, taken_at, bucket, bucket_at}
 use Rattle.rules.specs.Pools.{Pool, Dynamic, by, next, took, took_next, checked, handed, handed_by, new_pool, no_pool, pool_at, segments_of, with_pools, fits, fitting, serving, readied, taken_in, can_grow, grown, rounded, dynamic_mem, dynamic_answer, dynamic_after, dynamic_freed, gave}
 use Rattle.rules.proofs.Chunks.{takes_bucket}
 use Rattle.pool.specs.Model.{pool_of, pools_in, spare_count}
@@ -17,8 +17,9 @@ use Rattle.pool.specs.Dynamic.{dynamic_of}
 use Rattle.pool.specs.declared.pool_allocator.PoolAllocator.{PoolAllocator}
 use Rattle.pool.specs.declared.pool_allocator.SpareSegment.{SpareSegment}
 use Rattle.pool.specs.declared.dynamic_memory.DynamicMemory.{DynamicMemory}
-use Rattle.pool.specs.Nexts.{next_some, next_free, granted}
-use Rattle.pool.specs.Layouts.{segments_at, segments_length, pools_length, spares_pop}
+use Rattle.pool.specs.Soundness.{segments_at, segments_length}
+use Rattle.pool.proofs.Nexts.{next_some, next_free, granted}
+use Rattle.pool.proofs.Layouts.{spares_pop}
 
 -- ONE POOL OF THE CODE'S LIST
 
@@ -41,11 +42,6 @@ ready (q ∷ qs) (suc s) b e =
 -- its offset is small
 pub ready_small : (qs : List PoolAllocator) (s b : ℕ) → Ready qs s b → b * (pool_at (pools_in qs) s).buckets.size ≤ 256 * 65536
 ready_small qs s b r = let h : b ≤ 256 = omega (arith, r.within, r.fair.4) in mul-le-mul h r.fair.2
-
-pub fair_at : (qs : List PoolAllocator) (s : ℕ) → s < length qs → Fair (pool_at (pools_in qs) s).buckets.size (length (pool_at (pools_in qs) s).buckets.taken)
-fair_at [] s lt = absurd (omega arith)
-fair_at (q ∷ qs) zero lt = subst (Fair q.bucket_size) q.taken.ok.0 q.fair
-fair_at (q ∷ qs) (suc s) lt = fair_at qs s (omega arith)
 
 -- THE FIRST POOL THAT FITS
 
@@ -71,9 +67,9 @@ found asked (p ∷ ps) n s e =
     (omega (arith, r.0), ap (λ k. fits asked (pool_at (p ∷ ps) k)) z ∙ r.1))
     (cases_Bool (fits asked p))
 
-isSome_cond : (b : Bool) (n : ℕ) (x : Option ℕ) → is_some (cond b (Some n) x) ≡ (b || is_some x)
-isSome_cond true n x = refl
-isSome_cond false n x = refl
+is_some_cond : (b : Bool) (n : ℕ) (x : Option ℕ) → is_some (cond b (Some n) x) ≡ (b || is_some x)
+is_some_cond true n x = refl
+is_some_cond false n x = refl
 
 -- a pool fits exactly where a bucket as large as asked is free
 pub free_fits : (qs : List PoolAllocator) (asked n : ℕ) → some_free (segments_of (pools_in qs)) asked ≡ is_some (fitting asked (pools_in qs) n)
@@ -81,25 +77,7 @@ free_fits [] asked n = refl
 free_fits (q ∷ qs) asked n =
     ap (λ t. (nat_le asked q.bucket_size && t) || some_free (segments_of (pools_in qs)) asked) (sym (next_free q))
     ∙ (ap (λ t. fits asked (pool_of q) || t) (free_fits qs asked (n + 1))
-    ∙ sym (isSome_cond (fits asked (pool_of q)) n (fitting asked (pools_in qs) (n + 1))))
-
--- EVERY DYNAMIC MEMORY IS SOUND
-
-pub dynamic_sound : (m : DynamicMemory) → Sound 4 (dynamic_mem (dynamic_of m))
-dynamic_sound m =
-    let ps = pools_in (vec_items m.live) in
-    let n = segments_length ps ∙ pools_length m.live in
-    let l : length (vec_items m.live) ≡ vec_len m.live = sym m.live.ok.0 in
-    record {
-      limits = omega arith;
-      some = omega (arith, m.sized.0);
-      few = omega (arith, m.four);
-      shaped = λ s lt.
-          let f : Fair (segment_at (segments_of ps) s).size (length (segment_at (segments_of ps) s).taken) =
-          subst (λ (g : Segment). Fair g.size (length g.taken)) (sym (segments_at ps s)) (fair_at (vec_items m.live) s (omega arith)) in
-          record { fair = f; largest = f.2; within = omega (arith, m.laid s lt, m.sized.1); low = omega (arith, m.laid s lt, m.sized.2, m.four) };
-      apart = λ s t lt lk. inl (m.rising s t lt lk);
-    }
+    ∙ sym (is_some_cond (fits asked (pool_of q)) n (fitting asked (pools_in qs) (n + 1))))
 
 -- ONE POOL CHANGED, ONE POOL MORE
 
