@@ -87,7 +87,7 @@ pub trait Bank: Links {
     fn detach_sender(
         &mut self,
         place: usize,
-        held: &mut Queue<PointerOffset, 33>,
+        held: &mut Queue<PointerOffset, MAX_HELD>,
     ) -> Result<(), ConnectionError>
         ensures fault { result_err result ≡ detach_fault End.Sender (Self.Links.links self.old) place }
         ensures after { Self.Links.links self.new ≡ detached End.Sender (Self.Links.links self.old) place }

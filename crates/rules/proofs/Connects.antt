@@ -152,18 +152,20 @@ join_passes : (g : Side) (i : ℕ) (c : Connection) (d : LinkDetails) (l : Link)
     → (SafeBank g.links → SafeBank (set g.links c.place (Some l))) → d.buffer_size ≤ g.port.settings.subscriber_max_buffer_size
     → d.max_borrowed_samples ≡ g.port.settings.subscriber_max_borrowed_samples → Passage g (joined_at g i c l)
 join_passes g i c d l within f safe small limit = record {
-  id = refl;
-  settings = refl;
-  bytes = refl;
+  course = record {
+    id = refl;
+    settings = refl;
+    bytes = refl;
+    slots = length-set g.port.slots i (Some c);
+    shape = shape_refl g.port.chunks.mem;
+    fewer = λ o h. h;
+    bank = safe;
+    fits = fits;
+    others = λ a ne. unmoved_set a ps q (Some l) (foreign a (at ps q) (Some l) (f.was a) (not_mine a g.port.id l ne (and_parts (attached l.sender_end) _ f.now).1));
+  };
   loans = refl;
   history = refl;
   closed = refl;
-  slots = length-set g.port.slots i (Some c);
-  shape = shape_refl g.port.chunks.mem;
-  fewer = λ o h. h;
-  bank = safe;
-  fits = fits;
-  others = λ a ne. unmoved_set a ps q (Some l) (foreign a (at ps q) (Some l) (f.was a) (not_mine a g.port.id l ne (and_parts (attached l.sender_end) _ f.now).1));
 }
   where
     ps : Places
@@ -197,7 +199,7 @@ hand_over loans hand g s c o there safe kept single k =
     let p = reclaiming_passes loans hand g k in
     let same = reclaimed_slots loans hand g k in
     let some : 0 < times m.port.history o.value + times hand o.value = omega (arith, ap (λ h. times h o.value) p.history, kept) in
-    let r = take_up loans hand m s c o (sends m.links c.place o) (ap (λ xs. get_or xs s None) same ∙ there) refl (p.bank safe) some single (reclaiming loans hand g k) in
+    let r = take_up loans hand m s c o (sends m.links c.place o) (ap (λ xs. get_or xs s None) same ∙ there) refl (p.course.bank safe) some single (reclaiming loans hand g k) in
     record { order = r.order; passage = passage_trans p r.passage; slots = r.slots ∙ same }
 
 hand_all : (loans hand : List PointerOffset) (os : List PointerOffset) (g : Side) (s : ℕ) (c : Connection) → slot_at g.port s ≡ Some c → SafeBank g.links
@@ -208,7 +210,7 @@ hand_all loans hand (o ∷ os) g s c there safe kept single k =
     let self : ◌≡◌ {A = ℕ} (one o o.value) 1 = cond-true _ _ _ (eq-eqb o.value o.value refl) in
     let a = hand_over loans hand g s c o there safe (kept o (omega (arith, times_cons o os o.value, self))) (single o.value) k in
     let h = handed c.place g o in
-    let b = hand_all loans hand os h s c (ap (λ xs. get_or xs s None) a.slots ∙ there) (a.passage.bank safe)
+    let b = hand_all loans hand os h s c (ap (λ xs. get_or xs s None) a.slots ∙ there) (a.passage.course.bank safe)
     (λ x some. let z = kept x (omega (arith, times_cons o os x.value, some)) in omega (arith, ap (λ l. times l x.value) a.passage.history, z)) single a.order in
     record { order = b.order; passage = passage_trans a.passage b.passage; slots = b.slots ∙ a.slots }
 
@@ -241,7 +243,7 @@ connect loans hand g e q none may lt vacant safe single k =
     let f = newly g.port.id g.links d q refl safe b.1 may in
     let m = joined_at g e.place c l in
     let p = join_passes g e.place c d l may.within f (safe_created Sender g.links d q b.1 may) b.0 refl in
-    let r = hand_all loans hand (last_of e.buffer_size g.port.history) m e.place c (get_or-set_same g.port.slots e.place (Some c) None lt) (p.bank safe)
+    let r = hand_all loans hand (last_of e.buffer_size g.port.history) m e.place c (get_or-set_same g.port.slots e.place (Some c) None lt) (p.course.bank safe)
     (λ o some. omega (arith, dropped_times (length g.port.history - e.buffer_size) g.port.history o.value, some)) single
     (join_order loans hand g e.place c d l lt may.within vacant f k) in
     record { order = r.order; passage = passage_trans p r.passage }

@@ -25,7 +25,7 @@ use Rattle.rules.proofs.Offsets.{one, times_cons, times_append, without_times, o
 use Rattle.rules.proofs.Keep.{holding, letting_go}
 use Rattle.rules.proofs.Holdings.{stir_turned}
 use Rattle.rules.proofs.Views.{unmoved_held, unmoved_order}
-use Rattle.rules.proofs.Passages.{Passage, passage_refl, passage_trans, passage_hold, evict, passage_evict, passage_let_go, passage_links, fits_unmoved, Course, course, course_trans, course_lists}
+use Rattle.rules.proofs.Passages.{Passage, passage_refl, passage_trans, passage_hold, evict, passage_evict, passage_let_go, passage_links, fits_unmoved, Course, course_trans, course_lists}
 use Rattle.rules.proofs.Reclaims.{in_hand, reclaiming, reclaiming_passes, reclaimed_slots}
 use Rattle.rules.proofs.Lends.{reloaned}
 use Rattle.rules.proofs.Removes.{rewired}
@@ -88,7 +88,7 @@ record Held (hand : List PointerOffset) (o : PointerOffset) (g : Side) : Type 0 
   single : times hand o.value ≤ 1
 
 held_after : (hand : List PointerOffset) (o : PointerOffset) (g h : Side) → Passage g h → Held hand o g → Held hand o h
-held_after hand o g h p k = record { safe = p.bank k.safe; some = omega (arith, ap (λ l. times l o.value) p.history, k.some); single = k.single }
+held_after hand o g h p k = record { safe = p.course.bank k.safe; some = omega (arith, ap (λ l. times l o.value) p.history, k.some); single = k.single }
 
 one_try : (loans hand : List PointerOffset) (f : Handler) (o : PointerOffset) (c : Connection) (n : ℕ) (a : Going) (s : ℕ) (r : Result (Option PointerOffset) ZeroCopySendError)
     → slot_at a.side.port s ≡ Some c → sends a.side.links c.place o ≡ r → Held hand o a.side → InOrder loans hand a.side
@@ -205,10 +205,10 @@ noting loans hand g o some few lent absent k = go (eqb p.settings.history_size 0
     passage = passage_evict loans hand ps e q books
 
     go : (b : Bool) → eqb n 0 ≡ b → Noted loans hand g o (record { port = cond b p (let_go_if q e); links = ps })
-    go true is = record { order = k; course = course (passage_refl g); loans_same = refl; closed = refl; history = sym (cond-true _ _ _ is) }
+    go true is = record { order = k; course = (passage_refl g).course; loans_same = refl; closed = refl; history = sym (cond-true _ _ _ is) }
     go false is = record {
-      order = record { books = evict loans hand ps e q books; wired = rewired p (let_go_if q e) ps passage.id (if_slots q e) k.wired };
-      course = course_trans (course (passage_hold loans hand ps o p k.books some few)) (course_trans (course_lists (hold p o) ps p.loans l p.closed) (course passage));
+      order = record { books = evict loans hand ps e q books; wired = rewired p (let_go_if q e) ps passage.course.id (if_slots q e) k.wired };
+      course = course_trans (passage_hold loans hand ps o p k.books some few).course (course_trans (course_lists (hold p o) ps p.loans l p.closed) passage.course);
       loans_same = passage.loans;
       closed = passage.closed;
       history = if_history q e ∙ sym (cond-false _ _ _ is);
@@ -256,7 +256,7 @@ spending g k o loans closed c w =
         books = letting_go l [] q k.links o books;
         wired = rewired p (let_go q o) k.links refl refl w.wired;
       });
-      course = course_trans c (course_trans (course_lists p k.links (without same_chunk p.loans o) p.history p.closed) (course (passage_let_go l [] k.links o q books)));
+      course = course_trans c (course_trans (course_lists p k.links (without same_chunk p.loans o) p.history p.closed) (passage_let_go l [] k.links o q books).course);
       loans = same;
       closed = closed;
     }
@@ -265,7 +265,7 @@ spending g k o loans closed c w =
 posts : (f : Handler) (g m : Side) (o : PointerOffset) (x : Option SendError) (r : Result ℕ SendError) (k : Side) → Posts f m o x r k → Passage g m → SafeBank m.links
     → InHand g o → InOrder (without same_chunk g.port.loans o) (o ∷ []) m → SentOff g o (spent k o)
 posts f g m o (Some e) r k (_, is) p safe i w =
-    subst (λ (z : Side). SentOff g o (spent z o)) (sym is) (spending g m o p.loans p.closed (course p) w)
+    subst (λ (z : Side). SentOff g o (spent z o)) (sym is) (spending g m o p.loans p.closed p.course w)
 posts f g m o None r k d p safe i w =
     let l = without same_chunk g.port.loans o in
     let v = o.value in
@@ -276,7 +276,7 @@ posts f g m o None r k d p safe i w =
     let n = noting l (o ∷ []) m o (omega (arith, count, self)) (omega (arith, count, self, absent, held, i.lent)) i.lent absent w in
     let s : Side = record { port = noted m.port o; links = m.links } in
     let y = delivering l (o ∷ []) f s o r k d (record { safe = n.course.bank safe; some = omega (arith, self); single = omega (arith, self) }) n.order in
-    spending g k o (y.passage.loans ∙ (n.loans_same ∙ p.loans)) (y.passage.closed ∙ (n.closed ∙ p.closed)) (course_trans (course p) (course_trans n.course (course y.passage))) y.order
+    spending g k o (y.passage.loans ∙ (n.loans_same ∙ p.loans)) (y.passage.closed ∙ (n.closed ∙ p.closed)) (course_trans p.course (course_trans n.course y.passage.course)) y.order
 
 single_hand : (o : PointerOffset) (x : ℕ) → times (o ∷ []) x ≤ 1
 single_hand o x = go (eqb o.value x) refl
@@ -294,10 +294,10 @@ sending_off f g o n es r h w live safe k = was (is_live g.port o) live w
 
     open_or : (b : Bool) → Goes b ((r ≡ Err send.ConnectionBrokenSinceSenderNoLongerExists) × (h ≡ spent g o))
         ((x : Option SendError) × ((m : Side) × ((k : Side) × Updates g n es x m × Posts f m o x r k × (h ≡ spent k o)))) → SentOff g o h
-    open_or true (_, is) = subst (SentOff g o) (sym is) (spending g g o refl refl (course (passage_refl g)) i.order)
+    open_or true (_, is) = subst (SentOff g o) (sym is) (spending g g o refl refl (passage_refl g).course i.order)
     open_or false (x, (m, (k, updates, post, is))) =
         let u = updating (without same_chunk g.port.loans o) (o ∷ []) g n es x m updates safe (single_hand o) i.order in
-        subst (SentOff g o) (sym is) (posts f g m o x r k post u.passage (u.passage.bank safe) i u.order)
+        subst (SentOff g o) (sym is) (posts f g m o x r k post u.passage (u.passage.course.bank safe) i u.order)
 
     was : (b : Bool) → b ≡ true → Goes b (Goes g.port.closed ((r ≡ Err send.ConnectionBrokenSinceSenderNoLongerExists) × (h ≡ spent g o))
         ((x : Option SendError) × ((m : Side) × ((k : Side) × Updates g n es x m × Posts f m o x r k × (h ≡ spent k o))))) ((r ≡ Err send.LoanNotLive) × (h ≡ g)) → SentOff g o h

@@ -106,20 +106,17 @@ shape_place m n o x = ap (λ k. k + distance o) (x.start (segment o))
 pub shape_room : (m n : Mem) (o : ℕ) → SameShape m n → room n o ≡ room m o
 shape_room m n o x = x.size (segment o)
 
--- A PASSAGE
+-- A COURSE: what every step leaves, also where loans and history change
 
 -- a publisher's own links have buffers within its limit, and its own borrow limit
 abbrev pub Fits : Pub → Places → Type 0
 Fits p ps = (i : ℕ) (d : LinkDetails) → own_details p.id (at ps i) ≡ Some d
     → (d.buffer_size ≤ p.settings.subscriber_max_buffer_size) × (d.max_borrowed_samples ≡ p.settings.subscriber_max_borrowed_samples)
 
-pub record Passage (g h : Side) : Type 0 where
+pub record Course (g h : Side) : Type 0 where
   pub id : h.port.id ≡ g.port.id
   pub settings : h.port.settings ≡ g.port.settings
   pub bytes : h.port.bytes ≡ g.port.bytes
-  pub loans : h.port.loans ≡ g.port.loans
-  pub history : h.port.history ≡ g.port.history
-  pub closed : h.port.closed ≡ g.port.closed
   pub slots : length h.port.slots ≡ length g.port.slots
   pub shape : SameShape g.port.chunks.mem h.port.chunks.mem
   -- what is held after was held before
@@ -128,64 +125,6 @@ pub record Passage (g h : Side) : Type 0 where
   pub fits : Fits g.port g.links → Fits h.port h.links
   -- no other publisher sees any of it
   pub others : (a : PortId) → same_port a g.port.id ≡ false → Unmoved a g.links h.links
-
-pub passage_refl : (g : Side) → Passage g g
-passage_refl g = record {
-  id = refl;
-  settings = refl;
-  bytes = refl;
-  loans = refl;
-  history = refl;
-  closed = refl;
-  slots = refl;
-  shape = shape_refl g.port.chunks.mem;
-  fewer = λ o h. h;
-  bank = λ s. s;
-  fits = λ f. f;
-  others = λ a ne. unmoved_refl a g.links;
-}
-
-pub passage_trans : {g m h : Side} → Passage g m → Passage m h → Passage g h
-passage_trans {g} {m} {h} a b = record {
-  id = b.id ∙ a.id;
-  settings = b.settings ∙ a.settings;
-  bytes = b.bytes ∙ a.bytes;
-  loans = b.loans ∙ a.loans;
-  history = b.history ∙ a.history;
-  closed = b.closed ∙ a.closed;
-  slots = b.slots ∙ a.slots;
-  shape = shape_trans a.shape b.shape;
-  fewer = λ o p. a.fewer o (b.fewer o p);
-  bank = λ s. b.bank (a.bank s);
-  fits = λ f. b.fits (a.fits f);
-  others = λ x ne. unmoved_trans (a.others x ne) (b.others x (ap (same_port x) a.id ∙ ne));
-}
-
--- A COURSE: what is left where loans and history change, too
-
-pub record Course (g h : Side) : Type 0 where
-  pub id : h.port.id ≡ g.port.id
-  pub settings : h.port.settings ≡ g.port.settings
-  pub bytes : h.port.bytes ≡ g.port.bytes
-  pub slots : length h.port.slots ≡ length g.port.slots
-  pub shape : SameShape g.port.chunks.mem h.port.chunks.mem
-  pub fewer : (o : ℕ) → 0 < count_of h.port o → 0 < count_of g.port o
-  pub bank : SafeBank g.links → SafeBank h.links
-  pub fits : Fits g.port g.links → Fits h.port h.links
-  pub others : (a : PortId) → same_port a g.port.id ≡ false → Unmoved a g.links h.links
-
-pub course : {g h : Side} → Passage g h → Course g h
-course p = record {
-  id = p.id;
-  settings = p.settings;
-  bytes = p.bytes;
-  slots = p.slots;
-  shape = p.shape;
-  fewer = p.fewer;
-  bank = p.bank;
-  fits = p.fits;
-  others = p.others;
-}
 
 pub course_trans : {g m h : Side} → Course g m → Course m h → Course g h
 course_trans {g} {m} {h} a b = record {
@@ -199,6 +138,45 @@ course_trans {g} {m} {h} a b = record {
   fits = λ f. b.fits (a.fits f);
   others = λ x ne. unmoved_trans (a.others x ne) (b.others x (ap (same_port x) a.id ∙ ne));
 }
+
+-- A PASSAGE: a course that leaves loans and history
+
+pub record Passage (g h : Side) : Type 0 where
+  pub course : Course g h
+  pub loans : h.port.loans ≡ g.port.loans
+  pub history : h.port.history ≡ g.port.history
+  pub closed : h.port.closed ≡ g.port.closed
+
+pub passage_trans : {g m h : Side} → Passage g m → Passage m h → Passage g h
+passage_trans a b = record {
+  course = course_trans a.course b.course;
+  loans = b.loans ∙ a.loans;
+  history = b.history ∙ a.history;
+  closed = b.closed ∙ a.closed;
+}
+
+-- links alone change
+pub passage_links : (p : Pub) (ps qs : Places) → (SafeBank ps → SafeBank qs) → (Fits p ps → Fits p qs) → ((a : PortId) → same_port a p.id ≡ false → Unmoved a ps qs)
+    → Passage (record { port = p; links = ps }) (record { port = p; links = qs })
+passage_links p ps qs bank fits others = record {
+  course = record {
+    id = refl;
+    settings = refl;
+    bytes = refl;
+    slots = refl;
+    shape = shape_refl p.chunks.mem;
+    fewer = λ o h. h;
+    bank = bank;
+    fits = fits;
+    others = others;
+  };
+  loans = refl;
+  history = refl;
+  closed = refl;
+}
+
+pub passage_refl : (g : Side) → Passage g g
+passage_refl g = passage_links g.port g.links g.links (λ s. s) (λ f. f) (λ a ne. unmoved_refl a g.links)
 
 -- another history, other loans, open or closed
 pub course_lists : (p : Pub) (ps : Places) (loans history : List PointerOffset) (closed : Bool)
@@ -224,18 +202,20 @@ all_go loans hand ps (o ∷ os) p k = all_go loans hand ps os (let_go p o) (lett
 pub passage_let_go : (loans hand : List PointerOffset) (ps : Places) (o : PointerOffset) (p : Pub) → Books loans (o ∷ hand) p ps
     → Passage (record { port = p; links = ps }) (record { port = let_go p o; links = ps })
 passage_let_go loans hand ps o p k = record {
-  id = refl;
-  settings = refl;
-  bytes = refl;
+  course = record {
+    id = refl;
+    settings = refl;
+    bytes = refl;
+    slots = refl;
+    shape = shape_released p.chunks o.value;
+    fewer = λ x h. omega (arith, let_go_count loans hand p ps o k x, h);
+    bank = λ s. s;
+    fits = λ f. f;
+    others = λ a ne. unmoved_refl a ps;
+  };
   loans = refl;
   history = refl;
   closed = refl;
-  slots = refl;
-  shape = shape_released p.chunks o.value;
-  fewer = λ x h. omega (arith, let_go_count loans hand p ps o k x, h);
-  bank = λ s. s;
-  fits = λ f. f;
-  others = λ a ne. unmoved_refl a ps;
 }
 
 pub passage_all : (loans hand : List PointerOffset) (ps : Places) (os : List PointerOffset) (p : Pub) → Books loans (os ++ hand) p ps
@@ -257,39 +237,23 @@ passage_evict loans hand ps (Some o) p k = passage_let_go loans hand ps o p k
 pub passage_hold : (loans hand : List PointerOffset) (ps : Places) (o : PointerOffset) (p : Pub) → Books loans hand p ps → 0 < count_of p o.value → count_of p o.value < 10
     → Passage (record { port = p; links = ps }) (record { port = hold p o; links = ps })
 passage_hold loans hand ps o p k some few = record {
-  id = refl;
-  settings = refl;
-  bytes = refl;
+  course = record {
+    id = refl;
+    settings = refl;
+    bytes = refl;
+    slots = refl;
+    shape = shape_refl p.chunks.mem;
+    fewer = λ x h. ⊎_elim
+        (λ same. subst (λ y. 0 < count_of p y) same some)
+        (λ other. let z : ◌≡◌ {A = ℕ} (one o x) 0 = cond-false _ _ _ (ne_eqb o.value x other) in omega (arith, hold_count loans hand p ps o k some few x, z, h))
+        (cases_eq o.value x);
+    bank = λ s. s;
+    fits = λ f. f;
+    others = λ a ne. unmoved_refl a ps;
+  };
   loans = refl;
   history = refl;
   closed = refl;
-  slots = refl;
-  shape = shape_refl p.chunks.mem;
-  fewer = λ x h. ⊎_elim
-      (λ same. subst (λ y. 0 < count_of p y) same some)
-      (λ other. let z : ◌≡◌ {A = ℕ} (one o x) 0 = cond-false _ _ _ (ne_eqb o.value x other) in omega (arith, hold_count loans hand p ps o k some few x, z, h))
-      (cases_eq o.value x);
-  bank = λ s. s;
-  fits = λ f. f;
-  others = λ a ne. unmoved_refl a ps;
-}
-
--- links alone change
-pub passage_links : (p : Pub) (ps qs : Places) → (SafeBank ps → SafeBank qs) → (Fits p ps → Fits p qs) → ((a : PortId) → same_port a p.id ≡ false → Unmoved a ps qs)
-    → Passage (record { port = p; links = ps }) (record { port = p; links = qs })
-passage_links p ps qs bank fits others = record {
-  id = refl;
-  settings = refl;
-  bytes = refl;
-  loans = refl;
-  history = refl;
-  closed = refl;
-  slots = refl;
-  shape = shape_refl p.chunks.mem;
-  fewer = λ o h. h;
-  bank = bank;
-  fits = fits;
-  others = others;
 }
 
 pub fits_unmoved : (p : Pub) (ps qs : Places) → ((i : ℕ) → own_details p.id (at qs i) ≡ own_details p.id (at ps i)) → Fits p ps → Fits p qs

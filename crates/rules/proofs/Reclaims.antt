@@ -108,7 +108,7 @@ walk loans hand (None ∷ xs) g own k = walk loans hand xs g (λ i. own (suc i))
 walk loans hand (Some c ∷ xs) g own k =
     let one_kept = emptied_kept loans hand g c (own 0 c refl) k in
     let h = emptied g (Some c) in
-    let id = one_kept.passage.id in
+    let id = one_kept.passage.course.id in
     let rest = walk loans hand xs h (λ i d e. ap (λ x. owns x (at h.links d.place)) id ∙ (one_kept.owned d.place ∙ own (suc i) d e)) one_kept.books in
     record {
       books = rest.books;
@@ -126,9 +126,9 @@ reclaiming loans hand g k =
     record {
       books = r.books;
       wired = record {
-        own = λ i c e. ap (λ id. owns id (at (reclaimed_all g).links c.place)) r.passage.id ∙ (r.owned c.place ∙ w.own i c (back i c e));
+        own = λ i c e. ap (λ id. owns id (at (reclaimed_all g).links c.place)) r.passage.course.id ∙ (r.owned c.place ∙ w.own i c (back i c e));
         apart = λ i j c d a b. w.apart i j c d (back i c a) (back j d b);
-        cover = λ j e. let f = w.cover j (sym (r.owned j) ∙ (sym (ap (λ id. owns id (at (reclaimed_all g).links j)) r.passage.id) ∙ e)) in
+        cover = λ j e. let f = w.cover j (sym (r.owned j) ∙ (sym (ap (λ id. owns id (at (reclaimed_all g).links j)) r.passage.course.id) ∙ e)) in
             (f.0, (f.1.0, ap (λ xs. get_or xs f.0 None) r.slots ∙ f.1.1, f.1.2));
         few = omega (arith, ap length r.slots, w.few);
       };

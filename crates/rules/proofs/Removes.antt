@@ -116,18 +116,20 @@ unwired p ps i c there w =
 -- the slot is emptied, and then the sender end detached
 slot_emptied : (p : Pub) (ps : Places) (i : ℕ) → Passage (record { port = p; links = ps }) (record { port = with_slots p (set p.slots i None); links = ps })
 slot_emptied p ps i = record {
-  id = refl;
-  settings = refl;
-  bytes = refl;
+  course = record {
+    id = refl;
+    settings = refl;
+    bytes = refl;
+    slots = length-set p.slots i None;
+    shape = shape_refl p.chunks.mem;
+    fewer = λ o h. h;
+    bank = λ s. s;
+    fits = λ f. f;
+    others = λ a ne. unmoved_refl a ps;
+  };
   loans = refl;
   history = refl;
   closed = refl;
-  slots = length-set p.slots i None;
-  shape = shape_refl p.chunks.mem;
-  fewer = λ o h. h;
-  bank = λ s. s;
-  fits = λ f. f;
-  others = λ a ne. unmoved_refl a ps;
 }
 
 detached_passes : (p : Pub) (ps : Places) (i : ℕ) → owns p.id (at ps i) ≡ true → Passage (record { port = p; links = ps }) (record { port = p; links = detached Sender ps i })

@@ -30,19 +30,21 @@ use Rattle.rules.proofs.Connects.{Joined, connecting}
 reslotted : (p q : Pub) (ps : Places) → q.id ≡ p.id → q.settings ≡ p.settings → q.bytes ≡ p.bytes → q.loans ≡ p.loans → q.history ≡ p.history → q.closed ≡ p.closed
     → length q.slots ≡ length p.slots → q.chunks ≡ p.chunks → Passage (record { port = p; links = ps }) (record { port = q; links = ps })
 reslotted p q ps id settings bytes loans history closed slots chunks = record {
-  id = id;
-  settings = settings;
-  bytes = bytes;
+  course = record {
+    id = id;
+    settings = settings;
+    bytes = bytes;
+    slots = slots;
+    shape = subst (λ c. SameShape p.chunks.mem c.mem) (sym chunks) (shape_refl p.chunks.mem);
+    fewer = λ o h. subst (λ c. 0 < count_at c.mem.segments c.counts o) chunks h;
+    bank = λ s. s;
+    fits = λ f i d e. let r = f i d (ap (λ x. own_details x (at ps i)) (sym id) ∙ e) in
+        subst (λ (s : PublisherSettings). (d.buffer_size ≤ s.subscriber_max_buffer_size) × (d.max_borrowed_samples ≡ s.subscriber_max_borrowed_samples)) (sym settings) r;
+    others = λ a ne. unmoved_refl a ps;
+  };
   loans = loans;
   history = history;
   closed = closed;
-  slots = slots;
-  shape = subst (λ c. SameShape p.chunks.mem c.mem) (sym chunks) (shape_refl p.chunks.mem);
-  fewer = λ o h. subst (λ c. 0 < count_at c.mem.segments c.counts o) chunks h;
-  bank = λ s. s;
-  fits = λ f i d e. let r = f i d (ap (λ x. own_details x (at ps i)) (sym id) ∙ e) in
-      subst (λ (s : PublisherSettings). (d.buffer_size ≤ s.subscriber_max_buffer_size) × (d.max_borrowed_samples ≡ s.subscriber_max_borrowed_samples)) (sym settings) r;
-  others = λ a ne. unmoved_refl a ps;
 }
 
 tag_passes : (g : Side) (i : ℕ) → Passage g (beside g (tag_slot g.port i))
@@ -82,7 +84,7 @@ entering loans hand g e f h w lt safe single k =
     (λ has. subst (Joined loans hand g) (sym has.1) (record { order = tagging loans hand g e.place k; passage = tag_passes g e.place }))
     (λ new. let m = new.0 in
     let p = removing_passes loans hand g e.place m new.1 k in
-    let j = connecting loans hand m e h new.3 (omega (arith, lt, p.slots)) (vacated g e.place m new.1) (p.bank safe) single (removing loans hand g e.place m new.1 k) in
+    let j = connecting loans hand m e h new.3 (omega (arith, lt, p.course.slots)) (vacated g e.place m new.1) (p.course.bank safe) single (removing loans hand g e.place m new.1 k) in
     record { order = j.order; passage = passage_trans p j.passage })
 
 -- an entry of a well-formed list names a slot
@@ -102,7 +104,7 @@ entries loans hand [] g f h w ok safe single k = subst (Joined loans hand g) (sy
 entries loans hand (e ∷ es) g f h (x, (y, (m, enters, rest, _))) ok safe single k =
     let n = names_slot (length g.port.slots) e es ok in
     let a = entering loans hand g e x m enters n.0 safe single k in
-    let b = entries loans hand es m y h rest (ap (λ z. malformed z es) a.passage.slots ∙ n.1) (a.passage.bank safe) single a.order in
+    let b = entries loans hand es m y h rest (ap (λ z. malformed z es) a.passage.course.slots ∙ n.1) (a.passage.course.bank safe) single a.order in
     record { order = b.order; passage = passage_trans a.passage b.passage }
 
 -- THE CYCLE
@@ -115,7 +117,7 @@ sweep_passes loans hand i _ g h (visited {n = n} {m = m} v rest) k =
     (λ same. passage_trans (subst (Passage g) (sym same) (passage_refl g)) (sweep_passes loans hand (i + 1) n m h rest (subst (InOrder loans hand) (sym same) k)))
 
 begun_slots : (p : Pub) (n : ℕ) → length (begun p n).slots ≡ length p.slots
-begun_slots p n = (begun_passes (record { port = p; links = [] }) n).slots
+begun_slots p n = (begun_passes (record { port = p; links = [] }) n).course.slots
 
 cycling : (loans hand : List PointerOffset) (g : Side) (n : ℕ) (es : List SubscriberDetails) (f : Option SendError) (h : Side) → Cycles g n es f h
     → malformed (length g.port.slots) es ≡ false → SafeBank g.links → ((o : ℕ) → times hand o ≤ 1) → InOrder loans hand g → Joined loans hand g h

@@ -239,7 +239,7 @@ pub record StaysSound : Type 0 where
   pub creating : (end : End) (ps : Places) (d : LinkDetails) (p : ℕ) → create_fault end ps d ≡ None → MayTake ps d p → SoundBank ps → SoundBank (created end ps d p)
   pub detaching : (end : End) (ps : Places) (i : ℕ) → SoundBank ps → SoundBank (detached end ps i)
 
--- and safe, where a rig's marks may be set too
+-- so does every call, and a rig that sets marks; and where no sender was ever attached, nothing was sent
 pub record StaysSafe : Type 0 where
   pub sound : Lasts SoundBank
   pub safe : Lasts SafeBank

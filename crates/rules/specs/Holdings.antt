@@ -38,7 +38,7 @@ pub record NothingTakenAway : Type 0 where
   pub updating : (known : PortId → Bool) (s : Half) (n : ℕ) (es : List PublisherDetails) (r : Option UpdateError) (t : Half) → Updates known s n es r t → HeldSame s.links t.links
   pub closing : (s : Half) → HeldSame s.links (closed s).links
 
--- nor does a subscriber or a turn make a bank unsafe
+-- and a bank that was safe still is, whatever a subscriber calls and whatever a turn moves
 pub record OnlyStirred : Type 0 where
   pub turning : (ps qs : Places) → Turned ps qs → Stirred ps qs
   pub receiving : (t : Translation) (s : Half) → Stirred s.links (receive_after t s).links

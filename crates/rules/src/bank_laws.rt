@@ -16,14 +16,15 @@ pub fn nothing_taken_away_stands() -> u8
     0
 }
 
-// And where no sender end was ever attached, a link's lists are empty, whatever is called and whatever a rig sets.
+// Whatever is called and whatever marks a rig sets, the bank stays so, and a link whose sender end was never attached has empty lists.
 pub fn bank_stays_safe_stands() -> u8
     ensures { StaysSafe }
 {
     0
 }
 
-// Nor does a subscriber or a turn make a bank unsafe.
+// Whatever a subscriber calls, and whatever a turn moves, links hold for their senders what they held, and a bank of which all that is
+// said above holds keeps it.
 pub fn only_stirred_stands() -> u8
     ensures { OnlyStirred }
 {
