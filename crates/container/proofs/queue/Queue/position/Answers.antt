@@ -1,16 +1,13 @@
-use Rattle.std.proofs.Common.{rules}
+use Rattle.std.proofs.Common.{rules, tests}
+use Rattle.std.proofs.lemmas.Iterator.Consumers.{YieldsList-from_deque}
+use Rattle.std.proofs.lemmas.Iterator.Search.{position_from_yields_List}
 use Rattle.container.specs.Queue.{entries}
-use Rattle.container.proofs.Entries.{next, here, nowhere}
+use Rattle.container.proofs.Entries.{placed}
 use Rattle.container.proofs.queue.Queue.position.Goals as goal
-
-pub returns-then-same : goal.returns-then-same
-returns-then-same g c =
-    here g.T.Same.like (entries c.args.self.now) c.args.x c.loop-i.i c.index.result.now c.same.result (search rules) c.index.ensures c.same.ensures c.if-same.true c.loop-i.invariant
-
-pub loop-i-preserved : goal.loop-i-preserved
-loop-i-preserved g c =
-    next g.T.Same.like (entries c.args.self.now) c.args.x c.loop-i.i c.index.result.now c.same.result (search rules) c.index.ensures c.same.ensures c.if-same.false c.loop-i.invariant
 
 pub returns : goal.returns
 returns g c =
-    nowhere g.T.Same.like (entries c.args.self.now) c.args.x c.loop-i.i (search rules) c.loop-i.invariant
+    let like = g.T.PartialEq.eq in
+    let x = c.args.x.now in
+    let e = position_from_yields_List (λ y. like y x) _ _ c.position.result c.position.ensures.ran (YieldsList-from_deque (entries c.args.self.now) cc) (λ y b q k. search (rules, tests)) in
+    rw e (placed like x (entries c.args.self.now))
