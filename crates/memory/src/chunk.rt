@@ -1,5 +1,5 @@
-// The payload of a chunk: a part of the publisher's bytes, from its bucket's place to the bucket's end.
-ghost use Rattle.std.specs.Prelude.{◌≡◌, ◌+◌, ◌≤◌, length, IfOk, if◌then◌else◌, Some, None};
+//! The payload of a chunk: a part of the publisher's bytes, from its bucket's place to the bucket's end.
+ghost use Rattle.std.specs.Prelude.{◌≡◌, ◌+◌, ◌≤◌, length, IfOk, IfSome, if◌then◌else◌, Some, None};
 ghost use Rattle.std.specs.Result.{result_err};
 ghost use Rattle.rules.specs.Memory.{is_chunk};
 ghost use Rattle.rules.specs.Bytes.{place, room, overwritten, fill_fault, filled, read_fault, payload};
@@ -8,18 +8,15 @@ use crate::data_segment::Segmented;
 use elementary::error::{FillError, ReadError};
 use elementary::pointer_offset::PointerOffset;
 
-// Where a chunk's payload begins, and how long it is.
+/// Where a chunk's payload begins, and how long it is.
 fn locate<M: Segmented>(memory: &M, offset: PointerOffset) -> Option<(usize, usize)>
-    ensures { result ≡ (if is_chunk (M.Segmented.model memory.now).segments offset.value then Some (place (M.Segmented.model memory.now) offset.value, room (M.Segmented.model memory.now) offset.value) else None) }
+    ensures value { result ≡ (if is_chunk (M.Segmented.model memory.now).segments offset.value then Some (place (M.Segmented.model memory.now) offset.value, room (M.Segmented.model memory.now) offset.value) else None) }
+    ensures within { IfSome result (λ p. p.0 + p.1 ≤ (M.Segmented.model memory.now).capacity) }
 {
-    if memory.bucket(offset).is_none() {
-        return None;
-    }
+    memory.bucket(offset)?;
     let segment = usize::from(offset.segment_id());
-    match memory.start(segment) {
-        Some(start) => Some((start + offset.offset(), memory.bucket_size(segment))),
-        None => None,
-    }
+    let start = memory.start(segment)?;
+    Some((start + offset.offset(), memory.bucket_size(segment)))
 }
 
 fn overwrite(bytes: &mut [u8], start: usize, source: &[u8])
@@ -30,7 +27,7 @@ fn overwrite(bytes: &mut [u8], start: usize, source: &[u8])
     bytes[start..end].copy_from_slice(source);
 }
 
-// Writes `source` from the chunk's place on, and no other byte.
+/// Writes `source` from the chunk's place on, and no other byte.
 pub fn fill<M: Segmented>(
     memory: &M,
     bytes: &mut [u8],
@@ -40,20 +37,15 @@ pub fn fill<M: Segmented>(
     ensures fault { result_err result ≡ fill_fault (M.Segmented.model memory.now) bytes.old offset.value source.now }
     ensures after { bytes.new ≡ filled (M.Segmented.model memory.now) bytes.old offset.value source.now }
 {
-    let Some((start, room)) = locate(memory, offset) else {
-        return Err(FillError::OutOfBounds);
-    };
-    if source.len() > room {
-        return Err(FillError::OutOfBounds);
-    }
-    if bytes.len() < memory.capacity() {
+    let (start, room) = locate(memory, offset).ok_or(FillError::OutOfBounds)?;
+    if source.len() > room || bytes.len() < memory.capacity() {
         return Err(FillError::OutOfBounds);
     }
     overwrite(bytes, start, source);
     Ok(())
 }
 
-// Hands out the payload of a taken chunk, without a copy.
+/// Hands out the payload of a taken chunk, without a copy.
 pub fn payload<'a, M: Segmented>(
     memory: &M,
     bytes: &'a [u8],
@@ -62,9 +54,7 @@ pub fn payload<'a, M: Segmented>(
     ensures fault { result_err result ≡ read_fault (M.Segmented.model memory.now) bytes.now offset.value }
     ensures part { IfOk result (λ p. p.now ≡ payload (M.Segmented.model memory.now) bytes.now offset.value) }
 {
-    let Some((start, room)) = locate(memory, offset) else {
-        return Err(ReadError::NotBorrowed);
-    };
+    let (start, room) = locate(memory, offset).ok_or(ReadError::NotBorrowed)?;
     if !memory.is_taken(offset) {
         return Err(ReadError::NotBorrowed);
     }

@@ -1,74 +1,105 @@
-// What a publisher's memory and a view of it promise.
-ghost use Rattle.std.specs.Prelude.{◌≡◌, ℕ, false, length, slice_index_or};
+//! What a publisher's memory and a view of it promise.
+ghost use Rattle.std.specs.Prelude.{◌≡◌, ℕ, false, length, is_some, nat_lt, IfSome, slice_index_or};
 ghost use Rattle.std.specs.Result.{result_err};
-ghost use Rattle.rules.specs.Memory.{Mem, Sound, segment_at, bucket_at, taken_at, allocation_fault, Allocates, deallocation_fault, freed, start_of, placed};
+ghost use Rattle.rules.specs.Memory.{Mem, Segment, Sound, segment_at, bucket_at, taken_at, allocation_fault, Allocates, deallocation_fault, freed, start_of, placed};
 
 use elementary::error::{AllocationError, DeallocationError};
 use elementary::pointer_offset::PointerOffset;
 
-// What can be asked of a memory. Segments are named by their number from 0.
+/// The buckets of one segment.
+pub trait Buckets: Sized {
+    ghost segment: { Self → Segment };
+
+    fn start(&self) -> usize
+        ensures { result ≡ (segment self.now).start };
+
+    fn bucket_size(&self) -> usize
+        ensures { result ≡ (segment self.now).size };
+
+    fn number_of_buckets(&self) -> usize
+        ensures { result ≡ length (segment self.now).taken };
+
+    /// False for a bucket that is not there.
+    fn is_taken(&self, bucket: usize) -> bool
+        ensures { result ≡ slice_index_or (segment self.now).taken bucket false };
+}
+
+/// What can be asked of a memory. Segments are named by their number from 0.
 pub trait Segmented: Sized {
+    type Segment: Buckets;
+
     ghost model: { Self → Mem };
 
-    // The greatest number of segments, by the name that clauses have for it.
-    ghost limit: { ℕ };
+    /// The greatest number of segments.
+    ghost MAX_SEGMENTS: { ℕ };
+
+    const MAX_SEGMENTS: usize;
 
     fn number_of_segments(&self) -> usize
         ensures { result ≡ length (model self.now).segments };
 
-    // 0 for a segment that is not there.
-    fn bucket_size(&self, segment: usize) -> usize
-        ensures { result ≡ (segment_at (model self.now).segments segment).size };
-
-    // 0 for a segment that is not there.
-    fn number_of_buckets(&self, segment: usize) -> usize
-        ensures { result ≡ length (segment_at (model self.now).segments segment).taken };
-
-    fn start(&self, segment: usize) -> Option<usize>
-        ensures { result ≡ start_of (model self.now).segments segment };
+    /// One segment, if it is there.
+    fn segment(&self, segment: usize) -> Option<&Self::Segment>
+        ensures there { is_some result ≡ nat_lt segment (length (model self.now).segments) }
+        ensures buckets { IfSome result (λ s. Self.Segment.Buckets.segment s.now ≡ segment_at (model self.now).segments segment) };
 
     fn capacity(&self) -> usize
         ensures { result ≡ (model self.now).capacity };
 
-    fn is_bucket_taken(&self, segment: usize, bucket: usize) -> bool
-        ensures { result ≡ slice_index_or (segment_at (model self.now).segments segment).taken bucket false };
+    /// 0 for a segment that is not there.
+    fn bucket_size(&self, segment: usize) -> usize
+        ensures { result ≡ (segment_at (model self.now).segments segment).size }
+    {
+        self.segment(segment).map_or(0, |s| s.bucket_size())
+    }
 
-    // The bucket of its segment that an offset names, if it names one.
+    /// 0 for a segment that is not there.
+    fn number_of_buckets(&self, segment: usize) -> usize
+        ensures { result ≡ length (segment_at (model self.now).segments segment).taken }
+    {
+        self.segment(segment).map_or(0, |s| s.number_of_buckets())
+    }
+
+    fn start(&self, segment: usize) -> Option<usize>
+        ensures { result ≡ start_of (model self.now).segments segment }
+    {
+        self.segment(segment).map(|s| s.start())
+    }
+
+    fn is_bucket_taken(&self, segment: usize, bucket: usize) -> bool
+        ensures { result ≡ slice_index_or (segment_at (model self.now).segments segment).taken bucket false }
+    {
+        self.segment(segment).is_some_and(|s| s.is_taken(bucket))
+    }
+
+    /// The bucket of its segment that an offset names, if it names one.
     fn bucket(&self, offset: PointerOffset) -> Option<usize>
         ensures { result ≡ bucket_at (model self.now).segments offset.value }
     {
-        let distance = offset.offset();
-        let segment = usize::from(offset.segment_id());
-        let size = self.bucket_size(segment);
-        if size == 0 {
-            return None;
-        }
-        if distance % size != 0 {
+        let (distance, segment) = offset.into_parts();
+        let size = self.bucket_size(usize::from(segment));
+        if size == 0 || distance % size != 0 {
             return None;
         }
         let bucket = distance / size;
-        if bucket < self.number_of_buckets(segment) {
-            Some(bucket)
-        } else {
-            None
-        }
+        (bucket < self.number_of_buckets(usize::from(segment))).then_some(bucket)
     }
 
     fn is_taken(&self, offset: PointerOffset) -> bool
         ensures { result ≡ taken_at (model self.now).segments offset.value }
     {
-        match self.bucket(offset) {
-            Some(bucket) => self.is_bucket_taken(usize::from(offset.segment_id()), bucket),
-            None => false,
-        }
+        self.bucket(offset).is_some_and(|bucket| self.is_bucket_taken(
+            usize::from(offset.segment_id()),
+            bucket,
+        ))
     }
 
-    ghost sound: { (m : Self) → Sound limit (model m) };
+    ghost sound: { (m : Self) → Sound MAX_SEGMENTS (model m) };
 }
 
-// The segments of a memory as a port sees them that was told their greatest number.
+/// The segments of a memory as a port sees them that was told their greatest number.
 pub trait View: Sized {
-    // The number that it was opened with.
+    /// The number that it was opened with.
     ghost opened: { Self → ℕ };
 
     fn open(segments: usize) -> Self
@@ -77,7 +108,7 @@ pub trait View: Sized {
     fn segments(&self) -> usize
         ensures { result ≡ opened self.now };
 
-    // Where in the publisher's bytes an offset lies: its segment's start plus its distance, if the view has that segment.
+    /// Where in the publisher's bytes an offset lies: its segment's start plus its distance, if the view has that segment.
     fn translate<M: Segmented>(&self, memory: &M, offset: PointerOffset) -> Option<usize>
         ensures { result ≡ placed (M.Segmented.model memory.now).segments (opened self.now) offset.value }
     {
@@ -85,22 +116,38 @@ pub trait View: Sized {
         if segment >= self.segments() {
             return None;
         }
-        match memory.start(segment) {
-            Some(start) => Some(start + offset.offset()),
-            None => None,
-        }
+        Some(memory.start(segment)? + offset.offset())
+    }
+}
+
+/// The view of a memory that has at most so many segments.
+#[derive(Drop)]
+pub struct DataSegmentView<const MAX_SEGMENTS: usize> {
+    segments: usize,
+}
+
+impl<const MAX_SEGMENTS: usize> View for DataSegmentView<MAX_SEGMENTS> {
+    ghost opened = { λ v. v.segments };
+
+    fn open(segments: usize) -> Self {
+        DataSegmentView { segments }
+    }
+
+    fn segments(&self) -> usize {
+        self.segments
     }
 }
 
 pub trait Memory: Segmented {
     type View: View + Drop;
 
-    const MAX_SEGMENTS: usize;
-
     fn max_number_of_segments() -> usize
-        ensures { result ≡ Self.Segmented.limit };
+        ensures { result ≡ Self.Segmented.MAX_SEGMENTS }
+    {
+        Self::MAX_SEGMENTS
+    }
 
-    // Takes a free bucket of at least `size` bytes, of a segment that is there or of one that it makes.
+    /// Takes a free bucket of at least `size` bytes, of a segment that is there or of one that it makes.
     fn allocate(&mut self, size: usize, align: usize) -> Result<PointerOffset, AllocationError>
         ensures fault { result_err result ≡ allocation_fault (Self.Segmented.model self.old) size align }
         ensures after { Allocates (Self.Segmented.model self.old) size result (Self.Segmented.model self.new) };

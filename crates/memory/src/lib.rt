@@ -1,4 +1,4 @@
-// The memory of a publisher as an interface, the counts of who holds each chunk, and the bytes of a chunk.
+//! The memory of a publisher as an interface, the counts of who holds each chunk, and the bytes of a chunk.
 #![tactic(auto)]
 
 pub mod chunk;

@@ -1,10 +1,8 @@
-use Rattle.std.proofs.Common.{sym, ap, ◌∙◌}
-use Rattle.std.proofs.lemmas.Bool.{cond-false}
-use Rattle.rules.specs.Memory.{start_of}
-use Rattle.rules.proofs.Chunks.{startless}
+use Rattle.std.proofs.Common.{rules}
+use Rattle.rules.proofs.Chunks.{located}
 use Rattle.memory.proofs.chunk.locate.Goals as goal
 
-pub returns-in-None : goal.returns-in-None
-returns-in-None g c =
-    let gs = (g.M.Segmented.model c.args.memory.now).segments in
-    sym (cond-false _ _ _ (startless gs c.args.offset.value (c.in-None.ensures ∙ ap (start_of gs) (c.from-segment.ensures ∙ c.segment_id.ensures))))
+pub returns-clause-within : goal.returns-clause-within
+returns-clause-within g c =
+    let m = c.args.memory.now in
+    located _ (g.M.Segmented.model m) c.args.offset.value _ _ (g.met.M.Segmented.sound m) (search rules)
