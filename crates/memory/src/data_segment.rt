@@ -1,7 +1,7 @@
 //! What a publisher's memory and a view of it promise.
-ghost use Rattle.std.specs.Prelude.{◌≡◌, ℕ, false, length, is_some, nat_lt, IfSome, slice_index_or};
+ghost use Rattle.std.specs.Prelude.{◌≡◌, ℕ, false, length, is_some, nat_lt, IfSome, Some, None, if◌then◌else◌, slice_index_or};
 ghost use Rattle.std.specs.Result.{result_err};
-ghost use Rattle.rules.specs.Memory.{Mem, Segment, Sound, segment_at, bucket_at, taken_at, allocation_fault, Allocates, deallocation_fault, freed, start_of, placed};
+ghost use Rattle.rules.specs.Memory.{Mem, Segment, Sound, segment_at, bucket, bucket_at, taken_at, allocation_fault, Allocates, deallocation_fault, freed, start_of, placed};
 
 use elementary::error::{AllocationError, DeallocationError};
 use elementary::pointer_offset::PointerOffset;
@@ -85,13 +85,19 @@ pub trait Segmented: Sized {
         (bucket < self.number_of_buckets(usize::from(segment))).then_some(bucket)
     }
 
+    /// The same, if that bucket is taken.
+    fn taken_bucket(&self, offset: PointerOffset) -> Option<usize>
+        ensures { result ≡ (if taken_at (model self.now).segments offset.value then Some (bucket (model self.now).segments offset.value) else None) }
+    {
+        let segment = usize::from(offset.segment_id());
+        let bucket = self.bucket(offset)?;
+        self.is_bucket_taken(segment, bucket).then_some(bucket)
+    }
+
     fn is_taken(&self, offset: PointerOffset) -> bool
         ensures { result ≡ taken_at (model self.now).segments offset.value }
     {
-        self.bucket(offset).is_some_and(|bucket| self.is_bucket_taken(
-            usize::from(offset.segment_id()),
-            bucket,
-        ))
+        self.taken_bucket(offset).is_some()
     }
 
     ghost sound: { (m : Self) → Sound MAX_SEGMENTS (model m) };

@@ -99,9 +99,10 @@ impl SegmentState {
     pub fn reference_count<M: Segmented>(&self, memory: &M, offset: PointerOffset) -> u64
         ensures { result ≡ count_at (M.Segmented.model memory.now).segments self.now offset.value }
     {
-        memory.bucket(offset).map_or(0, |bucket| {
-            self.get(usize::from(offset.segment_id()), bucket)
-        })
+        let segment = usize::from(offset.segment_id());
+        memory
+            .bucket(offset)
+            .map_or(0, |bucket| self.get(segment, bucket))
     }
 
     /// One holder more; answers how many there were, and the size of the chunk's bucket.
