@@ -1,4 +1,4 @@
-// The memories of the exchange: one segment that is there from the start, or up to four that are made as they are wanted.
+//! The memories of the exchange: one segment that is there from the start, or up to four that are made as they are wanted.
 #![tactic(auto)]
 
 pub mod dynamic_memory;

@@ -1,10 +1,11 @@
-// The buckets of one segment.
+//! The buckets of one segment.
 ghost use Rattle.std.specs.Prelude.{◌≡◌, ◌≤◌, false, [], replicate, vec_len, vec_capacity};
 ghost use Rattle.rules.specs.Memory.{Fair};
 ghost use Rattle.pool.specs.Order.{Counted, Listed, Apart};
 
-mod calls;
-mod spare;
+use crate::request::SegmentLayout;
+use memory::data_segment::Buckets;
+use std::alloc::{AllocError, Global};
 
 #[derive(Drop)]
 pub struct PoolAllocator {
@@ -21,7 +22,75 @@ pub struct PoolAllocator {
     ghost apart: { Apart freed.items },
 }
 
-// The memory for a segment to be, reserved so that making the segment allocates nothing.
+impl PoolAllocator {
+    ghost use Rattle.std.specs.Prelude.{◌≡◌, true, false, IfOk, slice_index_or};
+    ghost use Rattle.rules.specs.Pools.{new_pool, next, took, gave, fits};
+    ghost use Rattle.pool.specs.Model.{pool_of};
+
+    pub(crate) fn new(
+        heap: Global,
+        start: usize,
+        layout: SegmentLayout,
+    ) -> Result<PoolAllocator, AllocError>
+        ensures { IfOk result (λ p. pool_of p ≡ new_pool start layout.bucket_size layout.count) }
+    {
+        let spare = SpareSegment::new(heap, layout)?;
+        Ok(spare.lay(start, layout.bucket_size))
+    }
+
+    /// Whether a bucket as large as `size` can be taken.
+    pub(crate) fn serves(&self, size: usize) -> bool
+        ensures { result ≡ fits size (pool_of self.now) }
+    {
+        size <= self.bucket_size && (!self.freed.is_empty() || self.fresh < self.taken.len())
+    }
+
+    pub(crate) fn take(&mut self) -> Option<usize>
+        ensures value { result ≡ next (pool_of self.old) }
+        ensures after { pool_of self.new ≡ took (pool_of self.old) }
+    {
+        if let Some(bucket) = self.freed.pop() {
+            self.taken[bucket] = true;
+            return Some(bucket);
+        }
+        let bucket = self.fresh;
+        *self.taken.get_mut(bucket)? = true;
+        self.fresh += 1;
+        Some(bucket)
+    }
+
+    pub(crate) fn give_back(&mut self, bucket: usize)
+        requires { slice_index_or (pool_of self.old).buckets.taken bucket false ≡ true }
+        ensures { pool_of self.new ≡ gave (pool_of self.old) bucket }
+    {
+        self.taken[bucket] = false;
+        self.freed.push_reserved(bucket);
+    }
+}
+
+impl Buckets for PoolAllocator {
+    ghost use Rattle.pool.specs.Model.{pool_of};
+
+    ghost segment = { λ p. (pool_of p).buckets };
+
+    fn start(&self) -> usize {
+        self.start
+    }
+
+    fn bucket_size(&self) -> usize {
+        self.bucket_size
+    }
+
+    fn number_of_buckets(&self) -> usize {
+        self.taken.len()
+    }
+
+    fn is_taken(&self, bucket: usize) -> bool {
+        self.taken.get(bucket).copied().unwrap_or(false)
+    }
+}
+
+/// The memory for a segment to be, reserved so that making the segment allocates nothing.
 #[derive(Drop)]
 pub struct SpareSegment {
     taken: Vec<bool>,
@@ -31,4 +100,34 @@ pub struct SpareSegment {
     ghost room: { vec_len taken ≤ vec_capacity freed },
     ghost blank: { taken.items ≡ replicate (vec_len taken) false },
     ghost unused: { freed.items ≡ [] },
+}
+
+impl SpareSegment {
+    ghost use Rattle.std.specs.Prelude.{◌≡◌, IfOk};
+    ghost use Rattle.rules.specs.Memory.{Fair};
+    ghost use Rattle.rules.specs.Pools.{new_pool};
+    ghost use Rattle.pool.specs.Model.{pool_of, spare_count};
+
+    pub(crate) fn new(heap: Global, layout: SegmentLayout) -> Result<SpareSegment, AllocError>
+        ensures { IfOk result (λ p. spare_count p ≡ layout.count) }
+    {
+        let taken = vec![in heap; false; layout.count]?;
+        let freed = Vec::with_capacity(heap, layout.count)?;
+        Ok(SpareSegment { taken, freed })
+    }
+
+    /// Gives the segment its place and the size of its buckets.
+    pub(crate) fn lay(self, start: usize, bucket_size: usize) -> PoolAllocator
+        requires { Fair bucket_size (spare_count self) }
+        ensures { pool_of result ≡ new_pool start bucket_size (spare_count self) }
+    {
+        let SpareSegment { taken, freed } = self;
+        PoolAllocator {
+            start,
+            bucket_size,
+            taken,
+            freed,
+            fresh: 0,
+        }
+    }
 }

@@ -4,7 +4,7 @@ use Rattle.rules.specs.Memory.{Allocates}
 use Rattle.rules.specs.Pools.{static_mem, static_answer}
 use Rattle.pool.specs.Static.{static_of}
 use Rattle.pool.proofs.Statics.{static_allocates}
-use Rattle.pool.proofs.static_memory.calls.StaticMemoryMemory.allocate.Goals as goal
+use Rattle.pool.proofs.static_memory.StaticMemoryMemory.allocate.Goals as goal
 
 pub returns : goal.returns
 returns c =

@@ -1,7 +1,7 @@
 use Rattle.std.proofs.Common.{vec_items, sym, ◌∙◌}
 use Rattle.pool.specs.Model.{pools_in}
 use Rattle.pool.specs.Soundness.{segments_length, pools_length}
-use Rattle.pool.proofs.dynamic_memory.calls.DynamicMemorySegmented.number_of_segments.Goals as goal
+use Rattle.pool.proofs.dynamic_memory.DynamicMemorySegmented.number_of_segments.Goals as goal
 
 pub returns : goal.returns
 returns c =

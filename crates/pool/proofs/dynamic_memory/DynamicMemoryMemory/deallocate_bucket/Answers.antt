@@ -4,7 +4,7 @@ use Rattle.elementary.specs.Ids.{segment}
 use Rattle.rules.specs.Pools.{pool_at, gave, with_pools, dynamic_mem}
 use Rattle.pool.specs.Dynamic.{dynamic_of}
 use Rattle.pool.proofs.Dynamics.{taken_bucket, dynamic_frees}
-use Rattle.pool.proofs.dynamic_memory.calls.DynamicMemoryMemory.deallocate_bucket.Goals as goal
+use Rattle.pool.proofs.dynamic_memory.DynamicMemoryMemory.deallocate_bucket.Goals as goal
 
 pub give_in-requires : goal.give_in-requires
 give_in-requires c =

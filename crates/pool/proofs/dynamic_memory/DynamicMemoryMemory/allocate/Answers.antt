@@ -4,7 +4,7 @@ use Rattle.rules.specs.Memory.{Allocates}
 use Rattle.rules.specs.Pools.{dynamic_mem, dynamic_answer}
 use Rattle.pool.specs.Dynamic.{dynamic_of}
 use Rattle.pool.proofs.Dynamics.{dynamic_allocates}
-use Rattle.pool.proofs.dynamic_memory.calls.DynamicMemoryMemory.allocate.Goals as goal
+use Rattle.pool.proofs.dynamic_memory.DynamicMemoryMemory.allocate.Goals as goal
 
 pub returns : goal.returns
 returns c =
