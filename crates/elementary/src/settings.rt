@@ -1,4 +1,4 @@
-// What a port is made with.
+//! What a port is made with.
 ghost use Rattle.std.specs.Prelude.{◌≡◌};
 ghost use Rattle.std.specs.Result.{result_err};
 ghost use Rattle.elementary.specs.Settings.{within, publisher_fault, subscriber_fault};
@@ -6,33 +6,33 @@ ghost use Rattle.elementary.specs.Settings.{within, publisher_fault, subscriber_
 use crate::backpressure::{BackpressureStrategy, DegradationAction};
 use crate::error::SettingsError;
 
-#[derive(Clone, Copy)]
+#[derive(Clone, Copy, PartialEq, Eq, Debug)]
 pub struct PublisherSettings {
-    // Loans at a time.
+    /// Loans at a time.
     pub max_loaned_samples: usize,
-    // Sent chunks that are kept for subscribers to come.
+    /// Sent chunks that are kept for subscribers to come.
     pub history_size: usize,
-    // Slots for connections.
+    /// Slots for connections.
     pub max_subscribers: usize,
     pub subscriber_max_buffer_size: usize,
     pub subscriber_max_borrowed_samples: usize,
-    // Retries of one delivery at one subscriber.
+    /// Retries of one delivery at one subscriber.
     pub max_retries: u64,
     pub enable_safe_overflow: bool,
     pub backpressure_strategy: BackpressureStrategy,
     pub degradation_action: DegradationAction,
 }
 
-#[derive(Clone, Copy)]
+#[derive(Clone, Copy, PartialEq, Eq, Debug)]
 pub struct SubscriberSettings {
-    // Slots for connections.
+    /// Slots for connections.
     pub max_publishers: usize,
     pub buffer_size: usize,
-    // Chunks borrowed at a time over one connection.
+    /// Chunks borrowed at a time over one connection.
     pub max_borrowed_samples: usize,
     pub enable_safe_overflow: bool,
     pub degradation_action: DegradationAction,
-    // Connections that left their slot while they had data or borrows.
+    /// Connections that left their slot while they had data or borrows.
     pub max_expired_connections: usize,
 }
 
