@@ -6,6 +6,7 @@ ghost use Rattle.elementary.specs.declared.error.SetUpError.TheVariants.{NoMemor
 
 use std::alloc::AllocError;
 use std::fmt;
+use thiserror::Error;
 
 /// What a refusal tells: its number, and the number of the cause if it carries one. A user sees these numbers, and each error turns
 /// into them.
@@ -38,20 +39,28 @@ impl fmt::Display for Refusal {
 }
 
 /// Why a connection takes no offset. The sender turns each case into an answer of its own, so that none has a number.
-#[derive(Clone, Copy, PartialEq, Eq, Debug)]
+#[derive(Clone, Copy, PartialEq, Eq, Debug, Error)]
 pub enum ZeroCopySendError {
+    #[error("the sender's end is not attached")]
     NotConnected,
+    #[error("the connection is broken")]
     InternalError,
+    #[error("the connection is corrupted")]
     ConnectionCorrupted,
+    #[error("the connection already holds the chunk")]
     UsedChunkListFull,
+    #[error("the receiver's buffer is full")]
     ReceiveBufferFull,
 }
 
 /// Why a memory gives no bucket.
-#[derive(Clone, Copy, PartialEq, Eq, Debug)]
+#[derive(Clone, Copy, PartialEq, Eq, Debug, Error)]
 pub enum AllocationError {
+    #[error("the size is 0 or larger than the memory's buckets")]
     SizeTooLarge = 3,
+    #[error("the alignment is none of 1, 2, 4 and 8")]
     AlignmentFailure = 4,
+    #[error("no free bucket is large enough, and no segment can be added")]
     OutOfMemory = 5,
 }
 
@@ -64,8 +73,9 @@ impl From<AllocationError> for Refusal {
 }
 
 /// Why a memory frees no bucket.
-#[derive(Clone, Copy, PartialEq, Eq, Debug)]
+#[derive(Clone, Copy, PartialEq, Eq, Debug, Error)]
 pub enum DeallocationError {
+    #[error("the bucket is not taken")]
     NotTaken = 15,
 }
 
@@ -78,11 +88,15 @@ impl From<DeallocationError> for Refusal {
 }
 
 /// Why an end of a connection is not created: the cause that a refused update carries.
-#[derive(Clone, Copy, PartialEq, Eq, Debug)]
+#[derive(Clone, Copy, PartialEq, Eq, Debug, Error)]
 pub enum ZeroCopyCreationError {
+    #[error("the buffer size is 0 or above a limit")]
     IncompatibleBufferSize = 20,
+    #[error("that end of the connection is attached or gone")]
     AnotherInstanceIsAlreadyConnected = 21,
+    #[error("the connection has other settings")]
     IncompatibleSettings = 22,
+    #[error("there is no such connection, and no empty place for one")]
     NoPlaceLeft = 23,
 }
 
@@ -95,9 +109,11 @@ impl From<ZeroCopyCreationError> for Refusal {
 }
 
 /// Why a connection hands out no offset.
-#[derive(Clone, Copy, PartialEq, Eq, Debug)]
+#[derive(Clone, Copy, PartialEq, Eq, Debug, Error)]
 pub enum ZeroCopyReceiveError {
+    #[error("as many chunks are borrowed as the connection allows")]
     ReceiveWouldExceedMaxBorrowValue = 14,
+    #[error("the receiver's end is not attached")]
     NotConnected = 15,
 }
 
@@ -110,9 +126,11 @@ impl From<ZeroCopyReceiveError> for Refusal {
 }
 
 /// Why a connection takes no offset back.
-#[derive(Clone, Copy, PartialEq, Eq, Debug)]
+#[derive(Clone, Copy, PartialEq, Eq, Debug, Error)]
 pub enum ZeroCopyReleaseError {
+    #[error("the chunk is not borrowed")]
     NotBorrowed = 15,
+    #[error("the list of returned chunks is full")]
     RetrieveBufferFull = 16,
 }
 
@@ -125,8 +143,9 @@ impl From<ZeroCopyReleaseError> for Refusal {
 }
 
 /// There is no such connection, or the caller's end of it is not attached.
-#[derive(Clone, Copy, PartialEq, Eq, Debug)]
+#[derive(Clone, Copy, PartialEq, Eq, Debug, Error)]
 pub enum ConnectionError {
+    #[error("there is no such connection, or this end of it is not attached")]
     NotConnected = 15,
 }
 
@@ -139,12 +158,17 @@ impl From<ConnectionError> for Refusal {
 }
 
 /// Why a publisher lends no chunk.
-#[derive(Clone, Copy, PartialEq, Eq, Debug)]
+#[derive(Clone, Copy, PartialEq, Eq, Debug, Error)]
 pub enum LoanError {
+    #[error("as many loans are live as the publisher may have")]
     ExceedsMaxLoans = 2,
+    #[error("the size is 0 or larger than the publisher's buckets")]
     ExceedsMaxLoanSize = 3,
+    #[error("the alignment is none of 1, 2, 4 and 8")]
     InternalFailure = 4,
+    #[error("no free bucket is large enough, and no segment can be added")]
     OutOfMemory = 5,
+    #[error("the publisher is closed")]
     ConnectionBrokenSinceSenderNoLongerExists = 8,
 }
 
@@ -157,9 +181,11 @@ impl From<LoanError> for Refusal {
 }
 
 /// Why a loaned chunk is not filled.
-#[derive(Clone, Copy, PartialEq, Eq, Debug)]
+#[derive(Clone, Copy, PartialEq, Eq, Debug, Error)]
 pub enum FillError {
+    #[error("the publisher does not have this loan out")]
     LoanNotLive = 6,
+    #[error("the bytes are more than the bucket holds")]
     OutOfBounds = 7,
 }
 
@@ -172,14 +198,21 @@ impl From<FillError> for Refusal {
 }
 
 /// Why a send fails. All but the first end the loan.
-#[derive(Clone, Copy, PartialEq, Eq, Debug)]
+#[derive(Clone, Copy, PartialEq, Eq, Debug, Error)]
 pub enum SendError {
+    #[error("the publisher does not have this loan out")]
     LoanNotLive,
+    #[error("the publisher is closed")]
     ConnectionBrokenSinceSenderNoLongerExists,
+    #[error("the list of subscribers names a place that is no slot, or one twice")]
     MalformedList,
+    #[error("a connection could not be made: {0}")]
     ConnectionFailure(ZeroCopyCreationError),
+    #[error("delivery met a broken connection")]
     InternalError,
+    #[error("delivery met a corrupted connection")]
     ConnectionCorrupted,
+    #[error("a subscriber's buffer is full")]
     UnableToDeliver,
 }
 
@@ -203,8 +236,9 @@ impl From<SendError> for Refusal {
 }
 
 /// Why a loan is not returned.
-#[derive(Clone, Copy, PartialEq, Eq, Debug)]
+#[derive(Clone, Copy, PartialEq, Eq, Debug, Error)]
 pub enum ReturnError {
+    #[error("the publisher does not have this loan out")]
     LoanNotLive = 6,
 }
 
@@ -217,8 +251,9 @@ impl From<ReturnError> for Refusal {
 }
 
 /// Why a subscriber receives nothing though there is data.
-#[derive(Clone, Copy, PartialEq, Eq, Debug)]
+#[derive(Clone, Copy, PartialEq, Eq, Debug, Error)]
 pub enum ReceiveError {
+    #[error("every connection with data has as many chunks borrowed as it allows")]
     ExceedsMaxBorrows = 14,
 }
 
@@ -231,9 +266,11 @@ impl From<ReceiveError> for Refusal {
 }
 
 /// Why a received chunk is not given back.
-#[derive(Clone, Copy, PartialEq, Eq, Debug)]
+#[derive(Clone, Copy, PartialEq, Eq, Debug, Error)]
 pub enum ReleaseError {
+    #[error("the chunk is not borrowed")]
     NotBorrowed = 15,
+    #[error("the list of returned chunks is full")]
     RetrieveBufferFull = 16,
 }
 
@@ -246,9 +283,11 @@ impl From<ReleaseError> for Refusal {
 }
 
 /// Why a received chunk is not read.
-#[derive(Clone, Copy, PartialEq, Eq, Debug)]
+#[derive(Clone, Copy, PartialEq, Eq, Debug, Error)]
 pub enum ReadError {
+    #[error("the publisher has fewer bytes than the bucket ends at")]
     OutOfBounds = 7,
+    #[error("the chunk is not borrowed")]
     NotBorrowed = 15,
 }
 
@@ -261,11 +300,15 @@ impl From<ReadError> for Refusal {
 }
 
 /// Why a subscriber's list of publishers is not taken over, or not whole.
-#[derive(Clone, Copy, PartialEq, Eq, Debug)]
+#[derive(Clone, Copy, PartialEq, Eq, Debug, Error)]
 pub enum UpdateError {
+    #[error("the list of publishers is malformed")]
     MalformedList,
+    #[error("a connection could not be made: {0}")]
     ConnectionFailure(ZeroCopyCreationError),
+    #[error("a connection with borrowed chunks expires, and the list of such is full")]
     ExpiredConnectionsFull,
+    #[error("every connection key is in use")]
     NoUnusedKey,
 }
 
@@ -286,8 +329,9 @@ impl From<UpdateError> for Refusal {
 }
 
 /// Why a publisher is not closed.
-#[derive(Clone, Copy, PartialEq, Eq, Debug)]
+#[derive(Clone, Copy, PartialEq, Eq, Debug, Error)]
 pub enum CloseError {
+    #[error("the publisher is closed")]
     ConnectionBrokenSinceSenderNoLongerExists = 8,
 }
 
@@ -300,8 +344,9 @@ impl From<CloseError> for Refusal {
 }
 
 /// Why something is not made or not set.
-#[derive(Clone, Copy, PartialEq, Eq, Debug)]
+#[derive(Clone, Copy, PartialEq, Eq, Debug, Error)]
 pub enum SettingsError {
+    #[error("a setting is out of range")]
     OutOfRange = 1,
 }
 
@@ -314,12 +359,15 @@ impl From<SettingsError> for Refusal {
 }
 
 /// Why something is not set up. Want of memory has no number, since no later call can meet it.
-#[derive(Clone, Copy, PartialEq, Eq, Debug)]
+#[derive(Clone, Copy, PartialEq, Eq, Debug, Error)]
 pub enum SetUpError {
+    #[error("a setting is out of range")]
     OutOfRange,
+    #[error("out of memory")]
     NoMemory,
 }
 
+// By hand, since a derived conversion does not say which error it makes, and callers' clauses name it.
 impl From<AllocError> for SetUpError {
     ghost from_gives = { λ _ r. r ≡ NoMemory };
 
