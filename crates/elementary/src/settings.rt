@@ -1,7 +1,7 @@
 //! What a port is made with.
 ghost use Rattle.std.specs.Prelude.{◌≡◌};
 ghost use Rattle.std.specs.Result.{result_err};
-ghost use Rattle.elementary.specs.Settings.{within, publisher_fault, subscriber_fault};
+ghost use Rattle.elementary.specs.Settings.{publisher_fault, subscriber_fault};
 
 use crate::backpressure::{BackpressureStrategy, DegradationAction};
 use crate::error::SettingsError;
@@ -36,21 +36,15 @@ pub struct SubscriberSettings {
     pub max_expired_connections: usize,
 }
 
-fn is_within(low: usize, high: usize, n: usize) -> bool
-    ensures { result ≡ within low high n }
-{
-    low <= n && n <= high
-}
-
 impl PublisherSettings {
     pub fn check(&self) -> Result<(), SettingsError>
         ensures { result_err result ≡ publisher_fault self.now }
     {
-        if is_within(1, 8, self.max_loaned_samples)
-            && is_within(0, 16, self.history_size)
-            && is_within(1, 8, self.max_subscribers)
-            && is_within(1, 8, self.subscriber_max_buffer_size)
-            && is_within(1, 8, self.subscriber_max_borrowed_samples)
+        if (1..=8).contains(&self.max_loaned_samples)
+            && (0..=16).contains(&self.history_size)
+            && (1..=8).contains(&self.max_subscribers)
+            && (1..=8).contains(&self.subscriber_max_buffer_size)
+            && (1..=8).contains(&self.subscriber_max_borrowed_samples)
             && self.max_retries <= 100
         {
             Ok(())
@@ -64,10 +58,10 @@ impl SubscriberSettings {
     pub fn check(&self) -> Result<(), SettingsError>
         ensures { result_err result ≡ subscriber_fault self.now }
     {
-        if is_within(1, 8, self.max_publishers)
-            && is_within(1, 8, self.buffer_size)
-            && is_within(1, 8, self.max_borrowed_samples)
-            && is_within(1, 4, self.max_expired_connections)
+        if (1..=8).contains(&self.max_publishers)
+            && (1..=8).contains(&self.buffer_size)
+            && (1..=8).contains(&self.max_borrowed_samples)
+            && (1..=4).contains(&self.max_expired_connections)
         {
             Ok(())
         } else {
