@@ -1,4 +1,4 @@
-// What a publisher does where a subscriber's buffer is full, and where a connection fails.
+//! What a publisher does where a subscriber's buffer is full, and where a connection fails.
 ghost use Rattle.std.specs.Prelude.{◌≡◌};
 ghost use Rattle.elementary.specs.declared.backpressure.BackpressureAction.{BackpressureAction};
 ghost use Rattle.elementary.specs.declared.backpressure.BackpressureInfo.{BackpressureInfo};
@@ -6,13 +6,13 @@ ghost use Rattle.elementary.specs.Handlers.{always, optional};
 
 use crate::port_id::PortId;
 
-#[derive(Clone, Copy)]
+#[derive(Clone, Copy, PartialEq, Eq, Debug)]
 pub enum BackpressureStrategy {
     RetryUntilDelivered,
     DiscardData,
 }
 
-#[derive(Clone, Copy)]
+#[derive(Clone, Copy, PartialEq, Eq, Debug)]
 pub enum BackpressureAction {
     FollowBackpressureStrategy,
     Retry,
@@ -20,22 +20,22 @@ pub enum BackpressureAction {
     DiscardDataAndFail,
 }
 
-#[derive(Clone, Copy)]
+#[derive(Clone, Copy, PartialEq, Eq, Debug)]
 pub enum DegradationAction {
     Ignore,
     Warn,
     DegradeAndFail,
 }
 
-// What a handler is told: between which ports the buffer is full, and how often this delivery was tried again so far.
-#[derive(Clone, Copy)]
+/// What a handler is told: between which ports the buffer is full, and how often this delivery was tried again so far.
+#[derive(Clone, Copy, PartialEq, Eq, Debug)]
 pub struct BackpressureInfo {
     pub sender_port_id: PortId,
     pub receiver_port_id: PortId,
     pub retries: u64,
 }
 
-// Answers from what it holds and is told, and from nothing else.
+/// Answers from what it holds and is told, and from nothing else.
 pub trait BackpressureHandler {
     ghost answers: { Self → BackpressureInfo → BackpressureAction };
 
@@ -47,8 +47,7 @@ pub trait BackpressureHandler {
 impl BackpressureHandler for BackpressureAction {
     ghost answers = { always };
 
-    fn call(&self, info: BackpressureInfo) -> BackpressureAction {
-        let _ = info;
+    fn call(&self, _info: BackpressureInfo) -> BackpressureAction {
         *self
     }
 }

@@ -1,4 +1,4 @@
-// What all layers share: names of ports and chunks, refusals, settings and backpressure handlers.
+//! What all layers share: names of ports and chunks, refusals, settings and backpressure handlers.
 #![tactic(auto)]
 
 pub mod backpressure;

@@ -1,8 +1,8 @@
-// The name of a chunk, which is one bucket of a publisher's memory.
+//! The name of a chunk, which is one bucket of a publisher's memory.
 ghost use Rattle.std.specs.Prelude.{◌≡◌, ◌^◌, ◌<◌};
 ghost use Rattle.elementary.specs.Ids.{packed, distance, segment, same_chunk};
 
-// The bucket's distance from the start of its segment times 256, plus the segment's number.
+/// The bucket's distance from the start of its segment times 256, plus the segment's number.
 #[derive(Clone, Copy, PartialEq, Eq, Debug)]
 pub struct PointerOffset {
     pub value: u64,
@@ -19,7 +19,7 @@ impl PointerOffset {
         }
     }
 
-    // The bucket's distance from the start of its segment.
+    /// The bucket's distance from the start of its segment.
     pub fn offset(self) -> usize
         ensures value { result ≡ distance self.value }
         ensures range { result < 2 ^ 56 }
@@ -33,7 +33,7 @@ impl PointerOffset {
         (self.value % 256) as u8
     }
 
-    // Both parts, of which `from_offset_and_segment_id` makes the same offset again.
+    /// Both parts, of which `from_offset_and_segment_id` makes the same offset again.
     pub fn into_parts(self) -> (usize, u8)
         ensures value { result ≡ (distance self.value, segment self.value) }
         ensures range { result.0 < 2 ^ 56 }
@@ -42,9 +42,10 @@ impl PointerOffset {
         (self.offset(), self.segment_id())
     }
 
+    /// What `==` answers, in the specification's words.
     pub fn is(self, other: PointerOffset) -> bool
         ensures { result ≡ same_chunk self other }
     {
-        self.value == other.value
+        self == other
     }
 }

@@ -1,8 +1,8 @@
-// The name of a port.
+//! The name of a port.
 ghost use Rattle.std.specs.Prelude.{◌≡◌};
 ghost use Rattle.elementary.specs.Ids.{same_port};
 
-// Two 64-bit numbers, which together are the 128 bits of the original's port id.
+/// Two 64-bit numbers, which together are the 128 bits of the original's port id.
 #[derive(Clone, Copy, PartialEq, Eq, Debug)]
 pub struct PortId {
     pub high: u64,
@@ -10,9 +10,10 @@ pub struct PortId {
 }
 
 impl PortId {
+    /// What `==` answers, in the specification's words.
     pub fn is(self, other: PortId) -> bool
         ensures { result ≡ same_port self other }
     {
-        self.high == other.high && self.low == other.low
+        self == other
     }
 }

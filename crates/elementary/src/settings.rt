@@ -1,56 +1,50 @@
-// What a port is made with.
+//! What a port is made with.
 ghost use Rattle.std.specs.Prelude.{◌≡◌};
 ghost use Rattle.std.specs.Result.{result_err};
-ghost use Rattle.elementary.specs.Settings.{within, publisher_fault, subscriber_fault};
+ghost use Rattle.elementary.specs.Settings.{publisher_fault, subscriber_fault};
 
 use crate::backpressure::{BackpressureStrategy, DegradationAction};
 use crate::error::SettingsError;
 
-#[derive(Clone, Copy)]
+#[derive(Clone, Copy, PartialEq, Eq, Debug)]
 pub struct PublisherSettings {
-    // Loans at a time.
+    /// Loans at a time.
     pub max_loaned_samples: usize,
-    // Sent chunks that are kept for subscribers to come.
+    /// Sent chunks that are kept for subscribers to come.
     pub history_size: usize,
-    // Slots for connections.
+    /// Slots for connections.
     pub max_subscribers: usize,
     pub subscriber_max_buffer_size: usize,
     pub subscriber_max_borrowed_samples: usize,
-    // Retries of one delivery at one subscriber.
+    /// Retries of one delivery at one subscriber.
     pub max_retries: u64,
     pub enable_safe_overflow: bool,
     pub backpressure_strategy: BackpressureStrategy,
     pub degradation_action: DegradationAction,
 }
 
-#[derive(Clone, Copy)]
+#[derive(Clone, Copy, PartialEq, Eq, Debug)]
 pub struct SubscriberSettings {
-    // Slots for connections.
+    /// Slots for connections.
     pub max_publishers: usize,
     pub buffer_size: usize,
-    // Chunks borrowed at a time over one connection.
+    /// Chunks borrowed at a time over one connection.
     pub max_borrowed_samples: usize,
     pub enable_safe_overflow: bool,
     pub degradation_action: DegradationAction,
-    // Connections that left their slot while they had data or borrows.
+    /// Connections that left their slot while they had data or borrows.
     pub max_expired_connections: usize,
-}
-
-fn is_within(low: usize, high: usize, n: usize) -> bool
-    ensures { result ≡ within low high n }
-{
-    low <= n && n <= high
 }
 
 impl PublisherSettings {
     pub fn check(&self) -> Result<(), SettingsError>
         ensures { result_err result ≡ publisher_fault self.now }
     {
-        if is_within(1, 8, self.max_loaned_samples)
-            && is_within(0, 16, self.history_size)
-            && is_within(1, 8, self.max_subscribers)
-            && is_within(1, 8, self.subscriber_max_buffer_size)
-            && is_within(1, 8, self.subscriber_max_borrowed_samples)
+        if (1..=8).contains(&self.max_loaned_samples)
+            && (0..=16).contains(&self.history_size)
+            && (1..=8).contains(&self.max_subscribers)
+            && (1..=8).contains(&self.subscriber_max_buffer_size)
+            && (1..=8).contains(&self.subscriber_max_borrowed_samples)
             && self.max_retries <= 100
         {
             Ok(())
@@ -64,10 +58,10 @@ impl SubscriberSettings {
     pub fn check(&self) -> Result<(), SettingsError>
         ensures { result_err result ≡ subscriber_fault self.now }
     {
-        if is_within(1, 8, self.max_publishers)
-            && is_within(1, 8, self.buffer_size)
-            && is_within(1, 8, self.max_borrowed_samples)
-            && is_within(1, 4, self.max_expired_connections)
+        if (1..=8).contains(&self.max_publishers)
+            && (1..=8).contains(&self.buffer_size)
+            && (1..=8).contains(&self.max_borrowed_samples)
+            && (1..=4).contains(&self.max_expired_connections)
         {
             Ok(())
         } else {

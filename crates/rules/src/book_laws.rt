@@ -1,18 +1,14 @@
-// Laws of a publisher's books, each a contract, so that the crate is proved only with its proof.
+//! Laws of a publisher's books, each a contract, so that the crate is proved only with its proof.
 ghost use Rattle.rules.specs.Books.{CallsKeepOrder, MovesKeepTheBooks};
 
-// Counting a further holder, letting one go, and one holder becoming another keep every chunk's count equal to its holders, and its
-// bucket taken exactly while there are any.
-pub fn moves_keep_the_books_stands() -> u8
+/// Counting a further holder, letting one go, and one holder becoming another keep every chunk's count equal to its holders, and its
+/// bucket taken exactly while there are any.
+pub fn moves_keep_the_books_stands()
     ensures { MovesKeepTheBooks }
-{
-    0
-}
+{}
 
-// Reclaiming, removing a link, tagging and sweeping slots, loaning, filling, returning, closing, and a link that takes a chunk keep the
-// books, and each slot wired to a link of its own.
-pub fn calls_keep_order_stands() -> u8
+/// Reclaiming, removing a link, tagging and sweeping slots, loaning, filling, returning, closing, and a link that takes a chunk keep the
+/// books, and each slot wired to a link of its own.
+pub fn calls_keep_order_stands()
     ensures { CallsKeepOrder }
-{
-    0
-}
+{}

@@ -1,4 +1,4 @@
-// The calls of an exchange, each with its operands, and what they answer. A loan is named by its publisher and its offset.
+//! The calls of an exchange, each with its operands, and what they answer. A loan is named by its publisher and its offset.
 use elementary::chunk_details::ChunkDetails;
 use elementary::error::Refusal;
 use elementary::link::Mark;
@@ -64,12 +64,12 @@ pub enum Call {
 pub enum Answer {
     Done,
     Lent(PointerOffset),
-    // The number of recipients.
+    /// The number of recipients.
     Sent(usize),
     Received(Option<ChunkDetails>),
-    // Which part of the publisher's bytes a reading hands out.
+    /// Which part of the publisher's bytes a reading hands out.
     Payload { start: usize, length: usize },
     Refused(Refusal),
-    // No port of the exchange has the id that the call names.
+    /// No port of the exchange has the id that the call names.
     NoSuchPort,
 }

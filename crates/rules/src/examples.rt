@@ -1,8 +1,6 @@
-// The worked examples of the rules, as a contract over the definitions that all contracts cite.
+//! The worked examples of the rules, as a contract over the definitions that all contracts cite.
 ghost use Rattle.rules.specs.Examples.{Examples};
 
-pub fn examples_stand() -> u8
+pub fn examples_stand()
     ensures { Examples }
-{
-    0
-}
+{}

@@ -1,4 +1,4 @@
-// The specification that every contract cites stands in specs/. Here are the functions whose contracts are its laws.
+//! The specification that every contract cites stands in specs/. Here are the functions whose contracts are its laws.
 #![tactic(auto)]
 
 pub mod bank_laws;
