@@ -2,7 +2,7 @@
 ghost use Rattle.std.specs.Prelude.{◌≡◌};
 ghost use Rattle.elementary.specs.declared.error.Refusal.{Refusal};
 ghost use Rattle.elementary.specs.Refusals.{allocation_refusal, deallocation_refusal, creation_refusal, receiving_refusal, releasing_refusal, connection_refusal, loan_refusal, fill_refusal, send_refusal, return_refusal, receive_refusal, release_refusal, read_refusal, update_refusal, close_refusal, settings_refusal, number_alone};
-ghost use Rattle.elementary.specs.declared.error.SetUpError.TheVariants.{NoMemory};
+ghost use Rattle.elementary.specs.declared.error.SetUpError.TheVariants.{OutOfRange, NoMemory};
 
 use std::alloc::AllocError;
 use std::fmt;
@@ -373,5 +373,13 @@ impl From<AllocError> for SetUpError {
 
     fn from(_e: AllocError) -> SetUpError {
         SetUpError::NoMemory
+    }
+}
+
+impl From<SettingsError> for SetUpError {
+    ghost from_gives = { λ _ r. r ≡ OutOfRange };
+
+    fn from(_e: SettingsError) -> SetUpError {
+        SetUpError::OutOfRange
     }
 }

@@ -1,15 +1,17 @@
 -- A dynamic memory's calls, in the words that hold of every memory.
-use Rattle.std.specs.Prelude.{◌≡◌, ℕ, zero, suc, ◌+◌, ◌-◌, ◌*◌, ◌<◌, ◌≤◌, Bool, true, false, cond, ◌&&◌, ◌||◌, ◌⊎◌, List, [], ◌∷◌, ◌++◌, length, get_or, drop, replicate, is_some, Some, None, Err, vec_items, Option, nat_le, nat_lt, slice_index_or, slice_set, refl}
+use Rattle.std.specs.Prelude.{◌≡◌, ℕ, zero, suc, ◌+◌, ◌-◌, ◌*◌, ◌%◌, ◌<◌, ◌≤◌, Bool, true, false, cond, ◌&&◌, ◌||◌, ◌⊎◌, List, [], ◌∷◌, ◌++◌, length, get_or, replicate, is_some, Some, None, Err, vec_items, Option, nat_le, nat_lt, slice_index_or, slice_set, refl}
 use Rattle.std.proofs.Common.{sym, ◌∙◌, ap, subst, inl, inr, ⊎_elim, arith, mul-le-mul}
 use Rattle.std.specs.Result.{result_err}
-use Rattle.std.proofs.lemmas.List.{drop_more, drop_all, map-set, map_push, get_or_push, length-replicate, get_or-replicate, length-set}
+use Rattle.std.specs.List.{position, position_from}
+use Rattle.std.proofs.lemmas.Iterator.Adapters.{position_from-zero}
+use Rattle.std.proofs.lemmas.List.{map-set, map_push, get_or_push, length-replicate, get_or-replicate, length-set}
 use Rattle.std.proofs.lemmas.Bool.{cases_Bool, cond-true, cond-false, and_parts, leb-true, ltb-true, lt-ltb, or_from, false≢true}
 use Rattle.std.proofs.lemmas.Nat.{mod-mul-add}
 use Rattle.std.proofs.lemmas.Bool.Decides.{nat_tests}
 use Rattle.elementary.specs.Ids.{packed, segment}
 use Rattle.elementary.specs.declared.error.AllocationError.{AllocationError}
 use Rattle.elementary.specs.declared.error.AllocationError.TheVariants.{OutOfMemory}
-use Rattle.rules.specs.Memory.{Segment, Fair, segment_at, some_free, request_fault, else_fault, allocation_fault, Allocates, Takes, Grows, remarked, with_segments, blank, marked, freed, taken_at, bucket, bucket_at}
+use Rattle.rules.specs.Memory.{Segment, Fair, segment_at, some_free, request_fault, else_fault, allocation_fault, Allocates, Takes, Grows, remarked, with_segments, blank, marked, freed, taken_at, bucket}
 use Rattle.rules.specs.Pools.{Pool, Dynamic, by, next, took, took_next, checked, handed, handed_by, new_pool, no_pool, pool_at, segments_of, with_pools, fits, fitting, serving, readied, taken_in, can_grow, grown, rounded, dynamic_mem, dynamic_answer, dynamic_after, dynamic_freed, gave}
 use Rattle.rules.proofs.Chunks.{takes_bucket}
 use Rattle.pool.specs.Model.{pool_of, pools_in, spare_count}
@@ -45,13 +47,13 @@ ready_small qs s b r = let h : b ≤ 256 = omega (arith, r.within, r.fair.4) in 
 
 -- THE FIRST POOL THAT FITS
 
--- one step of the search from the left
-pub fitting_step : (asked : ℕ) (ps : List Pool) (s : ℕ) → s < length ps
-    → fitting asked (drop s ps) s ≡ cond (fits asked (pool_at ps s)) (Some s) (fitting asked (drop (s + 1) ps) (s + 1))
-fitting_step asked ps s lt = ap (λ qs. fitting asked qs s) (drop_more ps s no_pool lt)
+-- it is the first place that passes the test
+fitting_from : (asked : ℕ) (qs : List PoolAllocator) (n : ℕ) → position_from (λ q. fits asked (pool_of q)) n qs ≡ fitting asked (pools_in qs) n
+fitting_from asked [] n = refl
+fitting_from asked (q ∷ qs) n = ap (cond (fits asked (pool_of q)) (Some n)) (fitting_from asked qs (n + 1))
 
-pub fitting_end : (asked : ℕ) (ps : List Pool) (s : ℕ) → length ps ≤ s → fitting asked (drop s ps) s ≡ None
-fitting_end asked ps s le = ap (λ qs. fitting asked qs s) (drop_all s ps le)
+pub fitting_position : (asked : ℕ) (qs : List PoolAllocator) → position (λ q. fits asked (pool_of q)) qs ≡ fitting asked (pools_in qs) 0
+fitting_position asked qs = position_from-zero (λ q. fits asked (pool_of q)) qs ∙ fitting_from asked qs 0
 
 -- what is found fits
 found : (asked : ℕ) (ps : List Pool) (n s : ℕ) → fitting asked ps n ≡ Some s → (n ≤ s) × (fits asked (pool_at ps (s - n)) ≡ true)
@@ -103,13 +105,16 @@ dynamic_frees d o = go (taken_at (segments_of d.pools) o)
     go false = refl
 
 -- the bucket that a taken offset names
-pub taken_bucket : (ps : List Pool) (o b : ℕ) → taken_at (segments_of ps) o ≡ true → Some b ≡ bucket_at (segments_of ps) o
-    → (b ≡ bucket (segments_of ps) o) × (slice_index_or (pool_at ps (segment o)).buckets.taken b false ≡ true)
-taken_bucket ps o b t e =
-    let a = and_parts _ _ t in
-    let f : ◌≡◌ {A = Option ℕ} (Some b) (Some (bucket (segments_of ps) o)) = e ∙ cond-true _ _ _ a.0 in
+pub taken_bucket : (ps : List Pool) (o b : ℕ) → ◌≡◌ {A = Option ℕ} (Some b) (cond (taken_at (segments_of ps) o) (Some (bucket (segments_of ps) o)) None)
+    → (taken_at (segments_of ps) o ≡ true) × (b ≡ bucket (segments_of ps) o) × (slice_index_or (pool_at ps (segment o)).buckets.taken b false ≡ true)
+taken_bucket ps o b e =
+    ⊎_elim
+    (λ t. let f : ◌≡◌ {A = Option ℕ} (Some b) (Some (bucket (segments_of ps) o)) = e ∙ cond-true _ _ _ t in
     let eb : b ≡ bucket (segments_of ps) o = cc in
-    (eb, ap (λ (g : Segment). get_or g.taken b false) (sym (segments_at ps (segment o))) ∙ (ap (λ k. get_or (segment_at (segments_of ps) (segment o)).taken k false) eb ∙ a.1))
+    let a = and_parts _ _ t in
+    (t, eb, ap (λ (g : Segment). get_or g.taken b false) (sym (segments_at ps (segment o))) ∙ (ap (λ k. get_or (segment_at (segments_of ps) (segment o)).taken k false) eb ∙ a.1)))
+    (λ u. let f : ◌≡◌ {A = Option ℕ} (Some b) None = e ∙ cond-false _ _ _ u in absurd (let z : ◌≡◌ {A = ℕ} 0 1 = cc in omega arith))
+    (cases_Bool (taken_at (segments_of ps) o))
 
 -- the pools with a new one, of a segment to be
 pub grown_pools : (m : DynamicMemory) (size : ℕ) (x : SpareSegment) (w : PoolAllocator) (rest : List SpareSegment) (after : List PoolAllocator)
@@ -119,6 +124,10 @@ grown_pools m size x w rest after e r p =
     ap pools_in e
     ∙ (map_push pool_of (vec_items m.live) w
     ∙ ap (λ q. pools_in (vec_items m.live) ++ q ∷ []) (p ∙ ap (new_pool m.end (rounded size)) (spares_pop _ rest x m.count r m.spares).1))
+
+-- the least multiple of 8 that is as large as asked
+pub rounded_up : (asked size : ℕ) → asked ≤ size → size < asked + 8 → size % 8 ≡ 0 → size ≡ rounded asked
+rounded_up asked size low high multiple = omega arith
 
 -- ALLOCATE
 

@@ -1,8 +1,8 @@
 -- What a change of one segment, or one segment more, leaves of a dynamic memory's layout.
-use Rattle.std.specs.Prelude.{◌≡◌, ℕ, ◌+◌, ◌*◌, ◌<◌, ◌≤◌, List, [], ◌∷◌, ◌++◌, map, length, set, Some, None, vec_items, vec_len, Option, Vec, slice_index, slice_index_or, slice_set, refl}
+use Rattle.std.specs.Prelude.{◌≡◌, ℕ, ◌+◌, ◌*◌, ◌<◌, List, [], ◌∷◌, ◌++◌, map, length, set, Some, None, vec_items, vec_len, Option, Vec, slice_index, slice_index_or, slice_set, refl}
 use Rattle.std.proofs.Common.{sym, ◌∙◌, ap, subst, ⊎_elim, arith, zero-add}
 use Rattle.std.specs.declared.alloc.Global.{Global}
-use Rattle.std.proofs.lemmas.List.{get_or-set_same, get_or-set_other, set_past, length-set, get_or-map, get_or_past, length-map, map-set, map_push, length_push, get_or_append_left, get_or_push}
+use Rattle.std.proofs.lemmas.List.{get_or-set_same, get_or-set_other, set_past, length-set, get_or-map, length-map, map-set, map_push, length_push, get_or_append_left, get_or_push}
 use Rattle.std.proofs.lemmas.Bool.{cases_lt, cases_eq}
 use Rattle.rules.specs.Memory.{Segment, segment_at, no_segment, end_of}
 use Rattle.rules.specs.Pools.{Pool, by, next, took, took_next, gave, pool_at, no_pool, segments_of}
@@ -10,7 +10,8 @@ use Rattle.pool.specs.Model.{pool_of, pools_in, spare_count}
 use Rattle.pool.specs.Layout.{Laid, Rising, Even, Spares}
 use Rattle.pool.specs.declared.pool_allocator.PoolAllocator.{PoolAllocator}
 use Rattle.pool.specs.declared.pool_allocator.SpareSegment.{SpareSegment}
-use Rattle.pool.specs.Soundness.{pools_length, segments_at}
+use Rattle.pool.specs.declared.dynamic_memory.DynamicMemory.{DynamicMemory}
+use Rattle.pool.specs.Soundness.{segments_at}
 
 -- THE CODE'S LIST OF POOLS, READ AT ONE
 
@@ -18,9 +19,6 @@ pub pool_there : (v : Vec PoolAllocator Global) (s : ℕ) (x : PoolAllocator) �
 pool_there v s x lt e =
     let h : s < length (vec_items v) = omega (arith, v.ok.0) in
     get_or-map pool_of (vec_items v) s x no_pool h ∙ ap pool_of (sym e)
-
-pub pool_past : (v : Vec PoolAllocator Global) (s : ℕ) → vec_len v ≤ s → pool_at (pools_in (vec_items v)) s ≡ no_pool
-pool_past v s le = let n = pools_length v in get_or_past (pools_in (vec_items v)) s no_pool (omega arith)
 
 -- LAYOUT
 
@@ -75,13 +73,18 @@ pub pools_set : (v : Vec PoolAllocator Global) (s : ℕ) (x w : PoolAllocator) (
 pools_set v s x w f lt e c =
     map-set pool_of (vec_items v) s w ∙ ap (set (pools_in (vec_items v)) s) (c ∙ ap f (sym (pool_there v s x lt e)))
 
-pub pools_same : (v : Vec PoolAllocator Global) (s : ℕ) (p : Pool) → vec_len v ≤ s → pools_in (vec_items v) ≡ slice_set (pools_in (vec_items v)) s p
-pools_same v s p le = let n = pools_length v in sym (set_past (pools_in (vec_items v)) s p (omega arith))
-
 pub layout_pools : (ps : List Pool) (s : ℕ) (p : Pool) (end count : ℕ) → Alike (pool_at ps s).buckets p.buckets → Layout (segments_of ps) end count
     → Layout (segments_of (slice_set ps s p)) end count
 layout_pools ps s p end count a l =
     rw (map-set (λ q. q.buckets) ps s p) (layout_set (segments_of ps) s p.buckets end count (rw (segments_at ps s) a) l)
+
+-- the layout of a memory of which one pool was changed in its marks alone
+pub layout_changed : (m : DynamicMemory) (s : ℕ) (x w : PoolAllocator) (f : Pool → Pool) → s < vec_len m.live → x ≡ slice_index_or (vec_items m.live) s x → pool_of w ≡ f (pool_of x)
+    → ((p : Pool) → Alike p.buckets (f p).buckets) → Layout (segments_of (pools_in (slice_set (vec_items m.live) s w))) m.end m.count
+layout_changed m s x w f lt e c alike =
+    let ps = pools_in (vec_items m.live) in
+    subst (λ qs. Layout (segments_of qs) m.end m.count) (sym (pools_set m.live s x w f lt e c))
+    (layout_pools ps s _ m.end m.count (alike (pool_at ps s)) (record { laid = m.laid; rising = m.rising; even = m.even }))
 
 -- ONE SEGMENT MORE
 
@@ -118,17 +121,6 @@ layout_one g count st ct =
     (layout_push [] g 0 count st ct (record { laid = λ k h. absurd (omega arith); rising = λ j k h lk. absurd (omega arith); even = λ k h. absurd (omega arith) }))
 
 -- SEGMENTS TO BE
-
-pub spares_push : (ps qs : List SpareSegment) (x : SpareSegment) (count : ℕ) → qs ≡ ps ++ x ∷ [] → spare_count x ≡ count → Spares ps count → Spares qs count
-spares_push ps qs x count e c s =
-    let m : map spare_count qs ≡ map spare_count ps ++ spare_count x ∷ [] = ap (map spare_count) e ∙ map_push spare_count ps x in
-    let n : length qs ≡ length ps + 1 = ap length e ∙ length_push ps x in
-    let k = length-map ps spare_count in
-    λ i h. ap (λ z. slice_index z i) m
-    ∙ ⊎_elim
-    (λ old. get_or_append_left (map spare_count ps) (spare_count x ∷ []) 0 i (omega arith) ∙ s i old)
-    (λ new. let at : length (map spare_count ps) ≡ i = omega arith in get_or_push (map spare_count ps) (spare_count x) 0 i at ∙ c)
-    (cases_lt i (length ps))
 
 pub spares_pop : (ps rest : List SpareSegment) (x : SpareSegment) (count : ℕ) → ps ≡ rest ++ x ∷ [] → Spares ps count → Spares rest count × (spare_count x ≡ count)
 spares_pop ps rest x count e s =

@@ -1,10 +1,13 @@
 -- What a pool hands out next: a free bucket, or nothing where all are taken.
-use Rattle.std.specs.Prelude.{◌≡◌, ℕ, zero, suc, ◌-◌, ◌<◌, ◌≤◌, Bool, true, false, cond, List, [], ◌∷◌, length, get_or, is_some, Some, None, vec_items, Option, nat_lt, slice_index_or, refl}
+use Rattle.std.specs.Prelude.{◌≡◌, ℕ, zero, suc, ◌-◌, ◌<◌, ◌≤◌, Bool, true, false, cond, List, [], ◌∷◌, length, get_or, is_some, Some, None, vec_items, Option, Result, nat_lt, slice_index_or, refl}
 use Rattle.std.proofs.Common.{sym, ◌∙◌, ap, ⊎_elim, arith}
 use Rattle.std.proofs.lemmas.List.Sums.{count_by-le-length}
 use Rattle.std.proofs.lemmas.Bool.{cases_lt, cond-true, cond-false, lt-ltb, le-ltb, or_right, true≢false}
 use Rattle.std.proofs.lemmas.Bool.Decides.{nat_tests}
-use Rattle.rules.specs.Memory.{some_false, request_fault}
+use Rattle.std.specs.Result.{result_err}
+use Rattle.elementary.specs.declared.pointer_offset.PointerOffset.{PointerOffset}
+use Rattle.elementary.specs.declared.error.AllocationError.{AllocationError}
+use Rattle.rules.specs.Memory.{Mem, Allocates, some_false, request_fault}
 use Rattle.rules.specs.Laws.{trues}
 use Rattle.rules.specs.Pools.{next}
 use Rattle.rules.proofs.Totals.{trues_cons}
@@ -57,3 +60,8 @@ next_free q = go (next (pool_of q)) refl
 -- a request that passed its check asks for no more than the largest
 pub granted : (largest asked align : ℕ) → request_fault largest asked align ≡ None → asked ≤ largest
 granted largest asked align e = grind (arith, nat_tests)
+
+-- what holds of the answer and the memory after by their definitions holds of the code's own
+pub told : {D : Type 0} (mem : D → Mem) (m : Mem) (asked : ℕ) (fault : Option AllocationError) {a b : Result PointerOffset AllocationError} {p q : D} → a ≡ b → p ≡ q
+    → (result_err b ≡ fault) × Allocates m asked b (mem q) → (result_err a ≡ fault) × Allocates m asked a (mem p)
+told mem m asked fault e f r = rw (e, f) r

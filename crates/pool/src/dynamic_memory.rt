@@ -47,7 +47,7 @@ fn three_spares(heap: Global, layout: SegmentLayout) -> Result<Vec<SpareSegment>
     ensures { IfOk result (λ v. Spares v.items layout.count × (vec_len v ≡ 3)) }
 {
     let mut spare = Vec::with_capacity(heap, 3)?;
-    for _ in 0..3 {
+    for _ in 0..3usize {
         spare.push_reserved(SpareSegment::new(heap, layout)?);
     }
     Ok(spare)
@@ -68,14 +68,14 @@ impl DynamicMemory {
         ensures { MakesDynamic size count capacity result }
     {
         let layout = SegmentLayout::new(size, count)?;
-        let end = size * count;
+        let end = layout.bucket_size * layout.count;
         if end > capacity {
             return Err(SetUpError::OutOfRange);
         }
         Ok(DynamicMemory {
             live: first(heap, layout)?,
             spare: three_spares(heap, layout)?,
-            count,
+            count: layout.count,
             end,
             capacity,
         })

@@ -9,18 +9,18 @@ use Rattle.pool.proofs.dynamic_memory.DynamicMemoryMemory.deallocate_bucket.Goal
 pub give_in-requires : goal.give_in-requires
 give_in-requires c =
     let ps = (dynamic_of c.args.self.now).pools in
-    let s = c.from.ensures ∙ c.segment_id.ensures in
-    ap (λ k. get_or (pool_at ps k).buckets.taken c.in-Some.bucket false) s
-    ∙ (taken_bucket ps c.args.offset.value c.in-Some.bucket (sym c.if-not-is_taken.ensures) c.in-Some.ensures).1
+    let b = c.in_ok-bucket.bucket in
+    ap (λ k. get_or (pool_at ps k).buckets.taken b false) (c.from.ensures ∙ c.segment_id.ensures)
+    ∙ (taken_bucket ps c.args.offset.value b (sym c.in_ok-bucket.ensures.ok_part ∙ c.taken_bucket.ensures)).2
 
 pub returns : goal.returns
 returns c =
     let d = dynamic_of c.args.self.now in
     let ps = d.pools in
     let o = c.args.offset.value in
-    let t = sym c.if-not-is_taken.ensures in
-    let b = (taken_bucket ps o c.in-Some.bucket t c.in-Some.ensures).0 in
+    let b = c.in_ok-bucket.bucket in
+    let t = taken_bucket ps o b (sym c.in_ok-bucket.ensures.ok_part ∙ c.taken_bucket.ensures) in
     let gone = c.give_in.ensures
-    ∙ (ap (λ k. with_pools d (set ps k (gave (pool_at ps k) c.in-Some.bucket))) (c.from.ensures ∙ c.segment_id.ensures)
-    ∙ (ap (λ x. with_pools d (set ps (segment o) (gave (pool_at ps (segment o)) x))) b ∙ sym (cond-true _ _ _ t))) in
-    record { fault = sym (cond-true _ _ _ t); after = ap dynamic_mem gone ∙ dynamic_frees d o; pools = gone }
+    ∙ (ap (λ k. with_pools d (set ps k (gave (pool_at ps k) b))) (c.from.ensures ∙ c.segment_id.ensures)
+    ∙ (ap (λ x. with_pools d (set ps (segment o) (gave (pool_at ps (segment o)) x))) t.1 ∙ sym (cond-true _ _ _ t.0))) in
+    record { fault = sym (cond-true _ _ _ t.0); after = ap dynamic_mem gone ∙ dynamic_frees d o; pools = gone }
