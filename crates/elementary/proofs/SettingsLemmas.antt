@@ -10,7 +10,7 @@ within-orders : (low high n : ℕ) (answer : Bool) → answer ≡ (is_le (nat_cm
 within-orders low high n answer value = grind (arith, nat_tests)
 
 pub tested : {low high : ℕ} {answer : Bool} (range : RangeInclusive ℕ) (n : ℕ)
-    → record {start : range_inclusive_start range ≡ low; end : range_inclusive_end range ≡ high; exhausted : range_inclusive_exhausted range ≡ false}
+    → record { start : range_inclusive_start range ≡ low; end : range_inclusive_end range ≡ high; exhausted : range_inclusive_exhausted range ≡ false }
     → answer ≡ range_inclusive_contains (λ x y. Some (nat_cmp x y)) range n
     → within low high n ≡ answer
 tested {low} {high} {answer} range n made value = within-orders low high n answer (rw (made.start, made.end, made.exhausted) at value)
