@@ -8,8 +8,7 @@ use std::alloc::AllocError;
 use std::fmt;
 use thiserror::Error;
 
-/// What a refusal tells: its number, and the number of the cause if it carries one. A user sees these numbers, and each error turns
-/// into them.
+/// What a refusal tells: its number, and the number of the cause if it carries one. These numbers are what users see and compare.
 #[derive(Clone, Copy, PartialEq, Eq, Debug)]
 pub struct Refusal {
     pub number: u8,
@@ -56,7 +55,7 @@ pub enum ZeroCopySendError {
 /// Why a memory gives no bucket.
 #[derive(Clone, Copy, PartialEq, Eq, Debug, Error)]
 pub enum AllocationError {
-    #[error("the size is 0 or larger than the memory's buckets")]
+    #[error("the size is 0 or above the memory's largest")]
     SizeTooLarge = 3,
     #[error("the alignment is none of 1, 2, 4 and 8")]
     AlignmentFailure = 4,
@@ -90,7 +89,7 @@ impl From<DeallocationError> for Refusal {
 /// Why an end of a connection is not created: the cause that a refused update carries.
 #[derive(Clone, Copy, PartialEq, Eq, Debug, Error)]
 pub enum ZeroCopyCreationError {
-    #[error("the buffer size is 0 or above a limit")]
+    #[error("the buffer size is 0, above 8 or above the publisher's limit")]
     IncompatibleBufferSize = 20,
     #[error("that end of the connection is attached or gone")]
     AnotherInstanceIsAlreadyConnected = 21,
@@ -162,7 +161,7 @@ impl From<ConnectionError> for Refusal {
 pub enum LoanError {
     #[error("as many loans are live as the publisher may have")]
     ExceedsMaxLoans = 2,
-    #[error("the size is 0 or larger than the publisher's buckets")]
+    #[error("the size is 0 or above the publisher's largest")]
     ExceedsMaxLoanSize = 3,
     #[error("the alignment is none of 1, 2, 4 and 8")]
     InternalFailure = 4,
@@ -285,7 +284,7 @@ impl From<ReleaseError> for Refusal {
 /// Why a received chunk is not read.
 #[derive(Clone, Copy, PartialEq, Eq, Debug, Error)]
 pub enum ReadError {
-    #[error("the publisher has fewer bytes than the bucket ends at")]
+    #[error("the publisher's bytes are fewer than its memory's capacity")]
     OutOfBounds = 7,
     #[error("the chunk is not borrowed")]
     NotBorrowed = 15,
@@ -302,7 +301,7 @@ impl From<ReadError> for Refusal {
 /// Why a subscriber's list of publishers is not taken over, or not whole.
 #[derive(Clone, Copy, PartialEq, Eq, Debug, Error)]
 pub enum UpdateError {
-    #[error("the list of publishers is malformed")]
+    #[error("the list of publishers has a bad place, an unknown publisher or a bad number of segments")]
     MalformedList,
     #[error("a connection could not be made: {0}")]
     ConnectionFailure(ZeroCopyCreationError),
@@ -346,7 +345,7 @@ impl From<CloseError> for Refusal {
 /// Why something is not made or not set.
 #[derive(Clone, Copy, PartialEq, Eq, Debug, Error)]
 pub enum SettingsError {
-    #[error("a setting is out of range")]
+    #[error("a setting is out of range, or names what is in use")]
     OutOfRange = 1,
 }
 
