@@ -1,11 +1,11 @@
-// A publisher's memory with the counts and the bytes of its chunks.
+//! A publisher's memory with the counts and the bytes of its chunks.
 ghost use Rattle.std.specs.Prelude.{◌≡◌, IfOk};
 ghost use Rattle.std.specs.Result.{result_err, result_ok};
 ghost use Rattle.rules.specs.Memory.{allocation_fault, Allocates, taken_at};
 ghost use Rattle.rules.specs.Counts.{count_at, counted, borrowed, released};
 ghost use Rattle.rules.specs.Bytes.{fill_fault, filled, read_fault, payload};
 ghost use Rattle.rules.specs.Pools.{by};
-ghost use Rattle.memory.specs.State.{chunks_of, counts_in};
+ghost use Rattle.memory.specs.State.{chunks_of};
 
 use elementary::error::{AllocationError, FillError, ReadError};
 use elementary::pointer_offset::PointerOffset;
@@ -64,16 +64,12 @@ impl<M: Memory> Feed<M> {
     pub(crate) fn loan(&mut self, size: usize) -> Result<PointerOffset, AllocationError>
         ensures fault { result_err result ≡ allocation_fault (M.Segmented.model self.old.memory) size 8 }
         ensures memory { Allocates (M.Segmented.model self.old.memory) size result (M.Segmented.model self.new.memory) }
-        ensures counts { counts_in self.new.state ≡ by (result_ok result) (counts_in self.old.state) (λ o. counted (M.Segmented.model self.new.memory).segments (counts_in self.old.state) o.value) }
+        ensures counts { self.new.state ≡ by (result_ok result) self.old.state (λ o. counted (M.Segmented.model self.new.memory).segments self.old.state o.value) }
     {
-        match self.memory.allocate(size, 8) {
-            Ok(offset) => {
-                let _ = self.state.borrow_sample(&self.memory, offset);
-                self.taken = self.taken.saturating_add(1);
-                Ok(offset)
-            }
-            Err(error) => Err(error),
-        }
+        let offset = self.memory.allocate(size, 8)?;
+        let _ = self.state.borrow_sample(&self.memory, offset);
+        self.taken = self.taken.saturating_add(1);
+        Ok(offset)
     }
 
     pub(crate) fn fill(&mut self, offset: PointerOffset, source: &[u8]) -> Result<(), FillError>
@@ -93,7 +89,7 @@ impl<M: Memory> Feed<M> {
 
     // One holder more; answers how many there were.
     pub(crate) fn hold(&mut self, offset: PointerOffset) -> u64
-        ensures value { result ≡ count_at (M.Segmented.model self.old.memory).segments (counts_in self.old.state) offset.value }
+        ensures value { result ≡ count_at (M.Segmented.model self.old.memory).segments self.old.state offset.value }
         ensures after { chunks_of (M.Segmented.model self.new.memory) self.new.state ≡ borrowed (chunks_of (M.Segmented.model self.old.memory) self.old.state) offset.value }
     {
         let (before, _) = self.state.borrow_sample(&self.memory, offset);
@@ -102,7 +98,7 @@ impl<M: Memory> Feed<M> {
 
     // One holder less, and a free bucket if that was the last; answers how many there were.
     pub(crate) fn let_go(&mut self, offset: PointerOffset) -> u64
-        ensures value { result ≡ count_at (M.Segmented.model self.old.memory).segments (counts_in self.old.state) offset.value }
+        ensures value { result ≡ count_at (M.Segmented.model self.old.memory).segments self.old.state offset.value }
         ensures after { chunks_of (M.Segmented.model self.new.memory) self.new.state ≡ released (chunks_of (M.Segmented.model self.old.memory) self.old.state) offset.value }
     {
         let before = self.state.release_chunk(&mut self.memory, offset);

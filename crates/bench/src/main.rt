@@ -1,48 +1,74 @@
-// A second of the feed: twelve sag maps go through one memory, each held by three consumers who let go in different orders.
+//! A second of the feed: twelve sag maps go through one memory, each held by three consumers who let go in different orders.
 #![tactic(auto)]
 
 mod feed;
 mod maps;
 
 use anyhow::anyhow;
-use elementary::error::{Refused, SetUpError};
+use elementary::error::{Refusal, SetUpError};
 use elementary::pointer_offset::PointerOffset;
 use feed::Feed;
 use maps::{MAP_BYTES, draw, sum};
 use memory::data_segment::Segmented;
 use pool::static_memory::StaticMemory;
+use std::fmt;
 
 const MAPS: usize = 12;
 
 const BUCKETS: usize = 3;
 
-const HOLDERS: [&str; 3] = ["plot", "solver", "archive"];
+#[derive(Clone, Copy)]
+enum Consumer {
+    Plot,
+    Solver,
+    Archive,
+}
 
-// Who still holds a map after the next one was sent.
+const CONSUMERS: [Consumer; 3] = [Consumer::Plot, Consumer::Solver, Consumer::Archive];
+
+impl fmt::Display for Consumer {
+    fn fmt<W: fmt::Write>(&self, f: &mut fmt::Formatter<W>) -> fmt::Result {
+        match self {
+            Consumer::Plot => write!(f, "plot"),
+            Consumer::Solver => write!(f, "solver"),
+            Consumer::Archive => write!(f, "archive"),
+        }
+    }
+}
+
+// Who still holds a map, maybe after the next one was sent.
 #[derive(Clone, Copy)]
 struct Late {
     map: usize,
-    holder: usize,
+    consumer: Consumer,
     offset: PointerOffset,
 }
 
-fn refused<E: Refused>(rt: &impl Print, error: E) -> anyhow::Result<()> {
-    let refusal = error.refusal();
+// The consumers in turn, so that each map is let go in another order.
+fn in_turn(turn: usize) -> Consumer {
+    CONSUMERS[turn % CONSUMERS.len()]
+}
+
+fn refused<T, E: Into<Refusal>>(rt: &impl Print, error: E) -> anyhow::Result<T> {
+    let refusal: Refusal = error.into();
     println!(rt; "refused {refusal}")?;
     Err(anyhow!("the feed stops"))
 }
 
 // One consumer lets go of a map, and says whether its bucket came free.
 fn let_go(rt: &impl Print, feed: &mut Feed<StaticMemory>, late: Late) -> anyhow::Result<()> {
-    let holder = HOLDERS[late.holder % 3];
-    let map = late.map;
-    let before = feed.let_go(late.offset);
-    let offset = late.offset.value;
-    if feed.is_taken(late.offset) {
-        println!(rt; "  {holder} lets go of map {map}, {before} held it")?;
+    let Late {
+        map,
+        consumer,
+        offset,
+    } = late;
+    let before = feed.let_go(offset);
+    let value = offset.value;
+    if feed.is_taken(offset) {
+        println!(rt; "  {consumer} lets go of map {map}, {before} held it")?;
     } else {
         println!(rt;
-            "  {holder} lets go of map {map}, {before} held it: the bucket at {offset} is free"
+            "  {consumer} lets go of map {map}, {before} held it: the bucket at {value} is free"
         )?;
     }
     Ok(())
@@ -56,28 +82,13 @@ fn send(
     bytes: &mut [u8],
 ) -> anyhow::Result<PointerOffset> {
     draw(bytes, map);
-    let offset = match feed.loan(MAP_BYTES) {
-        Ok(offset) => offset,
-        Err(error) => {
-            refused(rt, error)?;
-            return Err(anyhow!("no loan"));
-        }
-    };
-    if let Err(error) = feed.fill(offset, bytes) {
-        refused(rt, error)?;
-    }
-    for holder in 0..HOLDERS.len() {
-        let _ = holder;
+    let offset = feed.loan(MAP_BYTES).or_else(|e| refused(rt, e))?;
+    feed.fill(offset, bytes).or_else(|e| refused(rt, e))?;
+    for _ in CONSUMERS {
         let _ = feed.hold(offset);
     }
     let holders = feed.let_go(offset).saturating_sub(1);
-    let total = match feed.payload(offset) {
-        Ok(payload) => sum(payload),
-        Err(error) => {
-            refused(rt, error)?;
-            0
-        }
-    };
+    let total = feed.payload(offset).map(sum).or_else(|e| refused(rt, e))?;
     let value = offset.value;
     println!(rt;
         "map {map}: the bucket at {value} is taken, the sum of its bytes is {total}, {holders} hold it"
@@ -89,33 +100,18 @@ fn second(rt: &impl Print, feed: &mut Feed<StaticMemory>, bytes: &mut [u8]) -> a
     let mut late: Option<Late> = None;
     for map in 0..MAPS {
         let offset = send(rt, feed, map, bytes)?;
+        let holds = |turn| Late {
+            map,
+            consumer: in_turn(map + turn),
+            offset,
+        };
         if let Some(last) = late {
             let_go(rt, feed, last)?;
         }
-        // Each map is let go in another order, and by its last holder only when the next map is out.
-        let_go(
-            rt,
-            feed,
-            Late {
-                map,
-                holder: map,
-                offset,
-            },
-        )?;
-        let_go(
-            rt,
-            feed,
-            Late {
-                map,
-                holder: map + 1,
-                offset,
-            },
-        )?;
-        late = Some(Late {
-            map,
-            holder: map + 2,
-            offset,
-        });
+        let_go(rt, feed, holds(0))?;
+        let_go(rt, feed, holds(1))?;
+        // The last holder of a map lets go only when the next map is out.
+        late = Some(holds(2));
     }
     if let Some(last) = late {
         let_go(rt, feed, last)?;

@@ -1,16 +1,6 @@
-// What the tests compare: errors are neither printed nor compared, their refusals are.
-use elementary::error::{Refusal, Refused};
+//! What the tests compare: a refusal by its number.
+use elementary::error::Refusal;
 
-pub fn told<T, E: Refused>(answer: Result<T, E>) -> Result<T, Refusal> {
-    match answer {
-        Ok(x) => Ok(x),
-        Err(e) => Err(e.refusal()),
-    }
-}
-
-pub fn by(number: u8) -> Refusal {
-    Refusal {
-        number,
-        cause: None,
-    }
+pub fn told<T, E: Into<Refusal>>(answer: Result<T, E>) -> Result<T, Refusal> {
+    answer.map_err(Into::into)
 }

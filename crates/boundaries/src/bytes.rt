@@ -1,5 +1,5 @@
-// What a fill writes, what a reading hands out, and what both refuse.
-use crate::answers::{by, told};
+//! What a fill writes, what a reading hands out, and what both refuse.
+use crate::answers::told;
 use crate::steps::At;
 use elementary::error::Refusal;
 use memory::chunk::{fill, payload};
@@ -51,7 +51,7 @@ fn fill_of_65_bytes_into_64_is_refused(rt: HostRuntime) -> Result<(), Fail> {
         &mut [0; 192],
         At(64, 0),
         &[7; 65],
-        Err(by(7)),
+        Err(Refusal::new(7)),
     )
 }
 
@@ -63,15 +63,15 @@ fn fill_with_a_byte_short_of_the_capacity_is_refused(rt: HostRuntime) -> Result<
         &mut [0; 191],
         At(64, 0),
         &[7; 64],
-        Err(by(7)),
+        Err(Refusal::new(7)),
     )?;
-    check_fill(&rt, rt.alloc(), &mut [0; 191], At(64, 0), &[], Err(by(7)))
+    check_fill(&rt, rt.alloc(), &mut [0; 191], At(64, 0), &[], Err(Refusal::new(7)))
 }
 
 #[test]
 fn fill_where_there_is_no_chunk_is_refused(rt: HostRuntime) -> Result<(), Fail> {
     for at in [At(72, 0), At(192, 0), At(64, 1)] {
-        check_fill(&rt, rt.alloc(), &mut [0; 192], at, &[7], Err(by(7)))?;
+        check_fill(&rt, rt.alloc(), &mut [0; 192], at, &[7], Err(Refusal::new(7)))?;
     }
     Ok(())
 }
@@ -98,7 +98,7 @@ fn check_refused(
 ) -> Result<(), Fail> {
     let m = two_taken(heap)?;
     let answer = told(payload(&m, bytes, at.offset()));
-    assert_eq!(rt; answer.err(), Some(by(number)));
+    assert_eq!(rt; answer.err(), Some(Refusal::new(number)));
     Ok(())
 }
 

@@ -1,4 +1,4 @@
-// How many hold a chunk, and when its bucket is freed.
+//! How many hold a chunk, and when its bucket is freed.
 use crate::steps;
 use crate::steps::Step::*;
 use crate::steps::{At, Step};

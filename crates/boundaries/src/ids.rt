@@ -1,4 +1,4 @@
-// Offsets are packed and taken apart.
+//! Offsets are packed and taken apart.
 use elementary::pointer_offset::PointerOffset;
 
 // The largest distance that an offset has room for: 2^56 - 1.

@@ -1,5 +1,5 @@
-// All layers at the bounds of what they take. The tests stand here and not beside the code, since a crate with tests is proved twice.
-// Most are one table of calls with their answers, played by one function: that is quicker to prove than a test with as many calls.
+//! All layers at the bounds of what they take. The tests stand here and not beside the code, since a crate with tests is proved twice.
+//! Most are one table of calls with their answers, played by one function: that is quicker to prove than a test with as many calls.
 #![tactic(auto)]
 
 #[cfg(test)]

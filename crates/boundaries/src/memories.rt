@@ -1,4 +1,4 @@
-// Which bucket a memory gives, what it refuses, and where a view finds it.
+//! Which bucket a memory gives, what it refuses, and where a view finds it.
 use crate::steps::Step::*;
 use crate::steps::{At, in_dynamic, in_static};
 use elementary::error::SetUpError;

@@ -1,23 +1,9 @@
-// The queue on examples, with numbers for entries.
-ghost use Rattle.std.specs.Prelude.{◌==◌};
-
+//! The queue on examples, with numbers for entries.
 use Step::*;
-use container::queue::{Queue, Same};
+use container::queue::Queue;
 use std::alloc::Global;
 use std::process::Abort;
 use std::test::Fail;
-
-// A number of this crate's own, since the trait for entries cannot be implemented here for one of std.
-#[derive(Clone, Copy, PartialEq, Eq, Debug)]
-struct Entry(u32);
-
-impl Same for Entry {
-    ghost like = { λ a b. (a.0 == b.0) };
-
-    fn same(self, other: Entry) -> bool {
-        self.0 == other.0
-    }
-}
 
 // A call, with the answer that it must give.
 #[derive(Clone, Copy)]
@@ -39,19 +25,19 @@ enum Step {
 }
 
 // `nth` names the step where it fails.
-fn play(rt: &impl Abort, q: &mut Queue<Entry, 3>, step: Step, nth: usize) {
+fn play(rt: &impl Abort, q: &mut Queue<u32, 3>, step: Step, nth: usize) {
     match step {
-        Pushes(x) => assert_eq!(rt; q.push(Entry(x)), Ok(()), "step {nth}"),
-        HandsBack(x) => assert_eq!(rt; q.push(Entry(x)), Err(Entry(x)), "step {nth}"),
+        Pushes(x) => assert_eq!(rt; q.push(x), Ok(()), "step {nth}"),
+        HandsBack(x) => assert_eq!(rt; q.push(x), Err(x), "step {nth}"),
         Overflows(x, out) => assert_eq!(rt;
-            q.push_with_overflow(Entry(x)),
-            Some(Entry(out)),
+            q.push_with_overflow(x),
+            Some(out),
             "step {nth}"
         ),
-        Pops(x) => assert_eq!(rt; q.pop(), Some(Entry(x)), "step {nth}"),
-        Removes(x, found) => assert_eq!(rt; q.remove(Entry(x)), found, "step {nth}"),
-        Contains(x, found) => assert_eq!(rt; q.contains(Entry(x)), found, "step {nth}"),
-        Gets(i, x) => assert_eq!(rt; q.get(i).copied(), Some(Entry(x)), "step {nth}"),
+        Pops(x) => assert_eq!(rt; q.pop(), Some(x), "step {nth}"),
+        Removes(x, found) => assert_eq!(rt; q.remove(&x), found, "step {nth}"),
+        Contains(x, found) => assert_eq!(rt; q.contains(&x), found, "step {nth}"),
+        Gets(i, x) => assert_eq!(rt; q.get(i).copied(), Some(x), "step {nth}"),
         GetsNothing(i) => assert_eq!(rt; q.get(i).copied(), None, "step {nth}"),
         Restarts(limit, after) => {
             q.restart(limit);
@@ -61,14 +47,14 @@ fn play(rt: &impl Abort, q: &mut Queue<Entry, 3>, step: Step, nth: usize) {
     }
 }
 
-fn play_all(rt: &impl Abort, q: &mut Queue<Entry, 3>, steps: &[Step]) {
+fn play_all(rt: &impl Abort, q: &mut Queue<u32, 3>, steps: &[Step]) {
     for (i, step) in steps.iter().enumerate() {
         play(rt, q, *step, i);
     }
 }
 
 // A queue with these entries, oldest first.
-fn check_entries(rt: &impl Abort, q: &mut Queue<Entry, 3>, expected: &[u32]) {
+fn check_entries(rt: &impl Abort, q: &mut Queue<u32, 3>, expected: &[u32]) {
     assert_eq!(rt; q.len(), expected.len());
     for (i, x) in expected.iter().enumerate() {
         play(rt, q, Pops(*x), i);
@@ -77,7 +63,7 @@ fn check_entries(rt: &impl Abort, q: &mut Queue<Entry, 3>, expected: &[u32]) {
 }
 
 // A full queue: 1, 2 and 3.
-fn full(rt: &impl Abort, heap: Global) -> Result<Queue<Entry, 3>, Fail> {
+fn full(rt: &impl Abort, heap: Global) -> Result<Queue<u32, 3>, Fail> {
     let mut q = Queue::new(heap)?;
     play_all(
         rt,
@@ -150,7 +136,7 @@ fn restarts_with_another_limit(rt: HostRuntime) -> Result<(), Fail> {
 
 #[test]
 fn limit_0_keeps_nothing(rt: HostRuntime) -> Result<(), Fail> {
-    let mut q: Queue<Entry, 3> = Queue::with_limit(rt.alloc(), 0)?;
+    let mut q: Queue<u32, 3> = Queue::with_limit(rt.alloc(), 0)?;
     play_all(
         &rt,
         &mut q,
@@ -166,7 +152,7 @@ fn limit_0_keeps_nothing(rt: HostRuntime) -> Result<(), Fail> {
 
 #[test]
 fn copies_are_appended_as_far_as_there_is_room(rt: HostRuntime) -> Result<(), Fail> {
-    let mut q: Queue<Entry, 3> = Queue::with_limit(rt.alloc(), 2)?;
+    let mut q: Queue<u32, 3> = Queue::with_limit(rt.alloc(), 2)?;
     full(&rt, rt.alloc())?.append_copies_to(&mut q);
     check_entries(&rt, &mut q, &[1, 2]);
     Ok(())

@@ -1,5 +1,5 @@
-// Settings at the ends of their ranges and one beyond, and what handlers answer.
-use crate::answers::{by, told};
+//! Settings at the ends of their ranges and one beyond, and what handlers answer.
+use crate::answers::told;
 use elementary::backpressure::{
     BackpressureAction, BackpressureHandler, BackpressureInfo, BackpressureStrategy,
     DegradationAction,
@@ -57,7 +57,7 @@ fn a_publisher_refuses_one_beyond_each_range(rt: HostRuntime) {
             [1, 0, 1, 0, 1, 0],
             [1, 0, 1, 1, 0, 0],
         ],
-        Err(by(1)),
+        Err(Refusal::new(1)),
     );
     check_publishers(
         &rt,
@@ -69,7 +69,7 @@ fn a_publisher_refuses_one_beyond_each_range(rt: HostRuntime) {
             [8, 16, 8, 8, 9, 100],
             [8, 16, 8, 8, 8, 101],
         ],
-        Err(by(1)),
+        Err(Refusal::new(1)),
     );
 }
 
@@ -83,12 +83,12 @@ fn a_subscriber_refuses_one_beyond_each_range(rt: HostRuntime) {
     check_subscribers(
         &rt,
         &[[0, 1, 1, 1], [1, 0, 1, 1], [1, 1, 0, 1], [1, 1, 1, 0]],
-        Err(by(1)),
+        Err(Refusal::new(1)),
     );
     check_subscribers(
         &rt,
         &[[9, 8, 8, 4], [8, 9, 8, 4], [8, 8, 9, 4], [8, 8, 8, 5]],
-        Err(by(1)),
+        Err(Refusal::new(1)),
     );
 }
 
@@ -103,12 +103,7 @@ fn answer<H: BackpressureHandler>(handler: &H) -> BackpressureAction {
 #[test]
 fn without_a_handler_the_strategy_is_followed(rt: HostRuntime) {
     let none: Option<BackpressureAction> = None;
-    assert!(rt;
-        matches!(
-            answer(&none),
-            BackpressureAction::FollowBackpressureStrategy
-        )
-    );
+    assert_eq!(rt; answer(&none), BackpressureAction::FollowBackpressureStrategy);
 }
 
 #[test]
@@ -119,7 +114,7 @@ fn an_action_answers_itself(rt: HostRuntime) {
         BackpressureAction::DiscardData,
         BackpressureAction::DiscardDataAndFail,
     ] {
-        assert_eq!(rt; answer(&action) as u8, action as u8);
-        assert_eq!(rt; answer(&Some(action)) as u8, action as u8);
+        assert_eq!(rt; answer(&action), action);
+        assert_eq!(rt; answer(&Some(action)), action);
     }
 }

@@ -1,5 +1,5 @@
-// Calls on a memory, each with the answer that it must give.
-use crate::answers::{by, told};
+//! Calls on a memory, each with the answer that it must give.
+use crate::answers::told;
 use elementary::error::Refusal;
 use elementary::pointer_offset::PointerOffset;
 use memory::data_segment::{Memory, Segmented, View};
@@ -58,11 +58,11 @@ pub fn play<M: Memory>(rt: &impl Abort, m: &mut M, step: Step, nth: usize) {
         Step::Grants(size, align) => assert!(rt; ask(m, size, align).is_ok(), "step {nth}"),
         Step::Refuses(size, align, number) => assert_eq!(rt;
             ask(m, size, align),
-            Err(by(number)),
+            Err(Refusal::new(number)),
             "step {nth}"
         ),
         Step::Frees(at) => assert_eq!(rt; free(m, at), Ok(()), "step {nth}"),
-        Step::Keeps(at) => assert_eq!(rt; free(m, at), Err(by(15)), "step {nth}"),
+        Step::Keeps(at) => assert_eq!(rt; free(m, at), Err(Refusal::new(15)), "step {nth}"),
         Step::IsTaken(at, taken) => assert_eq!(rt; m.is_taken(at.offset()), taken, "step {nth}"),
         Step::Segments(n) => assert_eq!(rt; m.number_of_segments(), n, "step {nth}"),
         Step::Segment(k, start, size, buckets) => assert_eq!(rt;
