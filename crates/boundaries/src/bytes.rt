@@ -65,13 +65,27 @@ fn fill_with_a_byte_short_of_the_capacity_is_refused(rt: HostRuntime) -> Result<
         &[7; 64],
         Err(Refusal::new(7)),
     )?;
-    check_fill(&rt, rt.alloc(), &mut [0; 191], At(64, 0), &[], Err(Refusal::new(7)))
+    check_fill(
+        &rt,
+        rt.alloc(),
+        &mut [0; 191],
+        At(64, 0),
+        &[],
+        Err(Refusal::new(7)),
+    )
 }
 
 #[test]
 fn fill_where_there_is_no_chunk_is_refused(rt: HostRuntime) -> Result<(), Fail> {
     for at in [At(72, 0), At(192, 0), At(64, 1)] {
-        check_fill(&rt, rt.alloc(), &mut [0; 192], at, &[7], Err(Refusal::new(7)))?;
+        check_fill(
+            &rt,
+            rt.alloc(),
+            &mut [0; 192],
+            at,
+            &[7],
+            Err(Refusal::new(7)),
+        )?;
     }
     Ok(())
 }

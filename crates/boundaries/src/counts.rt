@@ -61,6 +61,7 @@ fn play_all<M: data_segment::Memory + Drop>(
     }
 }
 
+// On a new static memory, of which nothing is counted yet.
 fn in_static(
     rt: &impl Abort,
     heap: Global,

@@ -1,6 +1,6 @@
 //! Which bucket a memory gives, what it refuses, and where a view finds it.
 use crate::steps::Step::*;
-use crate::steps::{At, in_dynamic, in_static};
+use crate::steps::{At, play_all};
 use elementary::error::SetUpError;
 use memory::data_segment::Memory;
 use pool::dynamic_memory::DynamicMemory;
@@ -14,13 +14,11 @@ fn is_out_of_range<M: Memory + Drop>(made: Result<M, SetUpError>) -> bool {
 #[test]
 fn static_memory_takes_sizes_to_65536_and_counts_to_256(rt: HostRuntime) -> Result<(), Fail> {
     for (size, count) in [(8, 1), (8, 256), (65_536, 1), (65_536, 256)] {
-        in_static(
+        play_all(
             &rt,
-            rt.alloc(),
-            size,
-            count,
+            StaticMemory::new(rt.alloc(), size, count)?,
             &[Segment(0, 0, size, count), Segments(1)],
-        )?;
+        );
     }
     Ok(())
 }
@@ -43,7 +41,8 @@ fn the_last_freed_is_given_then_the_lowest_never_taken(rt: HostRuntime) -> Resul
         Gives(64, At(0, 0)),
         Gives(64, At(128, 0)),
     ];
-    in_static(&rt, rt.alloc(), 64, 3, steps)
+    play_all(&rt, StaticMemory::new(rt.alloc(), 64, 3)?, steps);
+    Ok(())
 }
 
 #[test]
@@ -58,7 +57,8 @@ fn size_is_tested_before_alignment_and_that_before_room(rt: HostRuntime) -> Resu
         Refuses(64, 3, 4),
         Refuses(64, 1, 5),
     ];
-    in_static(&rt, rt.alloc(), 64, 1, steps)
+    play_all(&rt, StaticMemory::new(rt.alloc(), 64, 1)?, steps);
+    Ok(())
 }
 
 #[test]
@@ -71,7 +71,8 @@ fn alignments_1_2_4_and_8_are_granted(rt: HostRuntime) -> Result<(), Fail> {
         Refuses(8, 0, 4),
         Refuses(8, 16, 4),
     ];
-    in_static(&rt, rt.alloc(), 8, 4, steps)
+    play_all(&rt, StaticMemory::new(rt.alloc(), 8, 4)?, steps);
+    Ok(())
 }
 
 #[test]
@@ -92,7 +93,8 @@ fn freeing_what_is_not_taken_changes_nothing(rt: HostRuntime) -> Result<(), Fail
         Gives(64, At(128, 0)),
         Refuses(64, 1, 5),
     ];
-    in_static(&rt, rt.alloc(), 64, 3, steps)
+    play_all(&rt, StaticMemory::new(rt.alloc(), 64, 3)?, steps);
+    Ok(())
 }
 
 #[test]
@@ -108,7 +110,8 @@ fn a_larger_size_gets_a_segment_of_its_own(rt: HostRuntime) -> Result<(), Fail> 
         Refuses(64, 1, 5),
         Segments(3),
     ];
-    in_dynamic(&rt, rt.alloc(), 64, 2, 400, steps)
+    play_all(&rt, DynamicMemory::new(rt.alloc(), 64, 2, 400)?, steps);
+    Ok(())
 }
 
 #[test]
@@ -118,7 +121,8 @@ fn size_9_is_rounded_up_to_16(rt: HostRuntime) -> Result<(), Fail> {
         Segment(1, 16, 16, 2),
         Gives(16, At(16, 1)),
     ];
-    in_dynamic(&rt, rt.alloc(), 8, 2, 1000, steps)
+    play_all(&rt, DynamicMemory::new(rt.alloc(), 8, 2, 1000)?, steps);
+    Ok(())
 }
 
 #[test]
@@ -131,25 +135,32 @@ fn a_fourth_segment_is_made_and_no_fifth(rt: HostRuntime) -> Result<(), Fail> {
         Refuses(8, 1, 5),
         Segments(4),
     ];
-    in_dynamic(&rt, rt.alloc(), 8, 1, 1000, steps)
+    play_all(&rt, DynamicMemory::new(rt.alloc(), 8, 1, 1000)?, steps);
+    Ok(())
 }
 
 #[test]
 fn capacity_is_used_up_and_not_passed(rt: HostRuntime) -> Result<(), Fail> {
-    in_dynamic(&rt, rt.alloc(), 8, 1, 24, &[Gives(9, At(0, 1))])?;
-    in_dynamic(
+    play_all(
         &rt,
-        rt.alloc(),
-        8,
-        1,
-        23,
+        DynamicMemory::new(rt.alloc(), 8, 1, 24)?,
+        &[Gives(9, At(0, 1))],
+    );
+    play_all(
+        &rt,
+        DynamicMemory::new(rt.alloc(), 8, 1, 23)?,
         &[Refuses(9, 1, 5), Segments(1), Gives(8, At(0, 0))],
-    )
+    );
+    Ok(())
 }
 
 #[test]
 fn first_segment_ends_within_the_capacity(rt: HostRuntime) -> Result<(), Fail> {
-    in_dynamic(&rt, rt.alloc(), 64, 2, 128, &[Segment(0, 0, 64, 2)])?;
+    play_all(
+        &rt,
+        DynamicMemory::new(rt.alloc(), 64, 2, 128)?,
+        &[Segment(0, 0, 64, 2)],
+    );
     assert!(rt; is_out_of_range(DynamicMemory::new(rt.alloc(), 64, 2, 127)));
     Ok(())
 }
@@ -164,7 +175,8 @@ fn size_65536_is_granted_and_65537_refused(rt: HostRuntime) -> Result<(), Fail> 
         Gives(65_536, At(0, 1)),
         Segment(1, 8, 65_536, 1),
     ];
-    in_dynamic(&rt, rt.alloc(), 8, 1, 1_000_000, steps)
+    play_all(&rt, DynamicMemory::new(rt.alloc(), 8, 1, 1_000_000)?, steps);
+    Ok(())
 }
 
 #[test]
@@ -179,7 +191,8 @@ fn the_first_fitting_segment_serves(rt: HostRuntime) -> Result<(), Fail> {
         Gives(32, At(32, 2)),
         Gives(8, At(0, 0)),
     ];
-    in_dynamic(&rt, rt.alloc(), 8, 2, 1000, steps)
+    play_all(&rt, DynamicMemory::new(rt.alloc(), 8, 2, 1000)?, steps);
+    Ok(())
 }
 
 #[test]
@@ -194,7 +207,8 @@ fn a_freed_bucket_is_taken_before_a_segment_is_made(rt: HostRuntime) -> Result<(
         Gives(64, At(0, 1)),
         Segments(2),
     ];
-    in_dynamic(&rt, rt.alloc(), 64, 1, 1000, steps)
+    play_all(&rt, DynamicMemory::new(rt.alloc(), 64, 1, 1000)?, steps);
+    Ok(())
 }
 
 #[test]
@@ -205,7 +219,8 @@ fn view_of_a_static_memory_finds_segment_0_alone(rt: HostRuntime) -> Result<(), 
         Views(4, At(64, 1), None),
         Views(0, At(64, 0), None),
     ];
-    in_static(&rt, rt.alloc(), 64, 2, steps)
+    play_all(&rt, StaticMemory::new(rt.alloc(), 64, 2)?, steps);
+    Ok(())
 }
 
 #[test]
@@ -220,5 +235,6 @@ fn view_finds_a_segment_once_it_is_there(rt: HostRuntime) -> Result<(), Fail> {
         Views(1, At(104, 1), None),
         Views(1, At(64, 0), Some(64)),
     ];
-    in_dynamic(&rt, rt.alloc(), 64, 2, 400, steps)
+    play_all(&rt, DynamicMemory::new(rt.alloc(), 64, 2, 400)?, steps);
+    Ok(())
 }

@@ -29,11 +29,7 @@ fn play(rt: &impl Abort, q: &mut Queue<u32, 3>, step: Step, nth: usize) {
     match step {
         Pushes(x) => assert_eq!(rt; q.push(x), Ok(()), "step {nth}"),
         HandsBack(x) => assert_eq!(rt; q.push(x), Err(x), "step {nth}"),
-        Overflows(x, out) => assert_eq!(rt;
-            q.push_with_overflow(x),
-            Some(out),
-            "step {nth}"
-        ),
+        Overflows(x, out) => assert_eq!(rt; q.push_with_overflow(x), Some(out), "step {nth}"),
         Pops(x) => assert_eq!(rt; q.pop(), Some(x), "step {nth}"),
         Removes(x, found) => assert_eq!(rt; q.remove(&x), found, "step {nth}"),
         Contains(x, found) => assert_eq!(rt; q.contains(&x), found, "step {nth}"),

@@ -7,89 +7,150 @@ use elementary::backpressure::{
 use elementary::error::Refusal;
 use elementary::port_id::PortId;
 use elementary::settings::{PublisherSettings, SubscriberSettings};
-use std::process::Abort;
 
-// Each row has loans, history, slots, buffer limit, borrow limit and retries.
-fn check_publishers(rt: &impl Abort, rows: &[[usize; 6]], expected: Result<(), Refusal>) {
-    for row in rows {
-        let settings = PublisherSettings {
-            max_loaned_samples: row[0],
-            history_size: row[1],
-            max_subscribers: row[2],
-            subscriber_max_buffer_size: row[3],
-            subscriber_max_borrowed_samples: row[4],
-            max_retries: row[5] as u64,
-            enable_safe_overflow: true,
-            backpressure_strategy: BackpressureStrategy::RetryUntilDelivered,
-            degradation_action: DegradationAction::Warn,
-        };
-        assert_eq!(rt; told(settings.check()), expected);
-    }
-}
+const SMALLEST_PUBLISHER: PublisherSettings = PublisherSettings {
+    max_loaned_samples: 1,
+    history_size: 0,
+    max_subscribers: 1,
+    subscriber_max_buffer_size: 1,
+    subscriber_max_borrowed_samples: 1,
+    max_retries: 0,
+    enable_safe_overflow: true,
+    backpressure_strategy: BackpressureStrategy::RetryUntilDelivered,
+    degradation_action: DegradationAction::Warn,
+};
 
-// Each row has slots, buffer, borrow limit and expired connections.
-fn check_subscribers(rt: &impl Abort, rows: &[[usize; 4]], expected: Result<(), Refusal>) {
-    for row in rows {
-        let settings = SubscriberSettings {
-            max_publishers: row[0],
-            buffer_size: row[1],
-            max_borrowed_samples: row[2],
-            enable_safe_overflow: true,
-            degradation_action: DegradationAction::Warn,
-            max_expired_connections: row[3],
-        };
-        assert_eq!(rt; told(settings.check()), expected);
-    }
-}
+const LARGEST_PUBLISHER: PublisherSettings = PublisherSettings {
+    max_loaned_samples: 8,
+    history_size: 16,
+    max_subscribers: 8,
+    subscriber_max_buffer_size: 8,
+    subscriber_max_borrowed_samples: 8,
+    max_retries: 100,
+    ..SMALLEST_PUBLISHER
+};
+
+const SMALLEST_SUBSCRIBER: SubscriberSettings = SubscriberSettings {
+    max_publishers: 1,
+    buffer_size: 1,
+    max_borrowed_samples: 1,
+    enable_safe_overflow: true,
+    degradation_action: DegradationAction::Warn,
+    max_expired_connections: 1,
+};
+
+const LARGEST_SUBSCRIBER: SubscriberSettings = SubscriberSettings {
+    max_publishers: 8,
+    buffer_size: 8,
+    max_borrowed_samples: 8,
+    max_expired_connections: 4,
+    ..SMALLEST_SUBSCRIBER
+};
 
 #[test]
 fn a_publisher_takes_both_ends_of_each_range(rt: HostRuntime) {
-    check_publishers(&rt, &[[1, 0, 1, 1, 1, 0], [8, 16, 8, 8, 8, 100]], Ok(()));
+    for settings in [SMALLEST_PUBLISHER, LARGEST_PUBLISHER] {
+        assert_eq!(rt; settings.check(), Ok(()));
+    }
 }
 
 #[test]
 fn a_publisher_refuses_one_beyond_each_range(rt: HostRuntime) {
-    check_publishers(
-        &rt,
-        &[
-            [0, 0, 1, 1, 1, 0],
-            [1, 0, 0, 1, 1, 0],
-            [1, 0, 1, 0, 1, 0],
-            [1, 0, 1, 1, 0, 0],
-        ],
-        Err(Refusal::new(1)),
-    );
-    check_publishers(
-        &rt,
-        &[
-            [9, 16, 8, 8, 8, 100],
-            [8, 17, 8, 8, 8, 100],
-            [8, 16, 9, 8, 8, 100],
-            [8, 16, 8, 9, 8, 100],
-            [8, 16, 8, 8, 9, 100],
-            [8, 16, 8, 8, 8, 101],
-        ],
-        Err(Refusal::new(1)),
-    );
+    let small = SMALLEST_PUBLISHER;
+    let large = LARGEST_PUBLISHER;
+    for settings in [
+        PublisherSettings {
+            max_loaned_samples: 0,
+            ..small
+        },
+        PublisherSettings {
+            max_subscribers: 0,
+            ..small
+        },
+        PublisherSettings {
+            subscriber_max_buffer_size: 0,
+            ..small
+        },
+        PublisherSettings {
+            subscriber_max_borrowed_samples: 0,
+            ..small
+        },
+        PublisherSettings {
+            max_loaned_samples: 9,
+            ..large
+        },
+        PublisherSettings {
+            history_size: 17,
+            ..large
+        },
+        PublisherSettings {
+            max_subscribers: 9,
+            ..large
+        },
+        PublisherSettings {
+            subscriber_max_buffer_size: 9,
+            ..large
+        },
+        PublisherSettings {
+            subscriber_max_borrowed_samples: 9,
+            ..large
+        },
+        PublisherSettings {
+            max_retries: 101,
+            ..large
+        },
+    ] {
+        assert_eq!(rt; told(settings.check()), Err(Refusal::new(1)));
+    }
 }
 
 #[test]
 fn a_subscriber_takes_both_ends_of_each_range(rt: HostRuntime) {
-    check_subscribers(&rt, &[[1, 1, 1, 1], [8, 8, 8, 4]], Ok(()));
+    for settings in [SMALLEST_SUBSCRIBER, LARGEST_SUBSCRIBER] {
+        assert_eq!(rt; settings.check(), Ok(()));
+    }
 }
 
 #[test]
 fn a_subscriber_refuses_one_beyond_each_range(rt: HostRuntime) {
-    check_subscribers(
-        &rt,
-        &[[0, 1, 1, 1], [1, 0, 1, 1], [1, 1, 0, 1], [1, 1, 1, 0]],
-        Err(Refusal::new(1)),
-    );
-    check_subscribers(
-        &rt,
-        &[[9, 8, 8, 4], [8, 9, 8, 4], [8, 8, 9, 4], [8, 8, 8, 5]],
-        Err(Refusal::new(1)),
-    );
+    let small = SMALLEST_SUBSCRIBER;
+    let large = LARGEST_SUBSCRIBER;
+    for settings in [
+        SubscriberSettings {
+            max_publishers: 0,
+            ..small
+        },
+        SubscriberSettings {
+            buffer_size: 0,
+            ..small
+        },
+        SubscriberSettings {
+            max_borrowed_samples: 0,
+            ..small
+        },
+        SubscriberSettings {
+            max_expired_connections: 0,
+            ..small
+        },
+        SubscriberSettings {
+            max_publishers: 9,
+            ..large
+        },
+        SubscriberSettings {
+            buffer_size: 9,
+            ..large
+        },
+        SubscriberSettings {
+            max_borrowed_samples: 9,
+            ..large
+        },
+        SubscriberSettings {
+            max_expired_connections: 5,
+            ..large
+        },
+    ] {
+        assert_eq!(rt; told(settings.check()), Err(Refusal::new(1)));
+    }
 }
 
 fn answer<H: BackpressureHandler>(handler: &H) -> BackpressureAction {
@@ -103,7 +164,10 @@ fn answer<H: BackpressureHandler>(handler: &H) -> BackpressureAction {
 #[test]
 fn without_a_handler_the_strategy_is_followed(rt: HostRuntime) {
     let none: Option<BackpressureAction> = None;
-    assert_eq!(rt; answer(&none), BackpressureAction::FollowBackpressureStrategy);
+    assert_eq!(rt;
+        answer(&none),
+        BackpressureAction::FollowBackpressureStrategy
+    );
 }
 
 #[test]

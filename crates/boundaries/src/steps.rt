@@ -3,11 +3,7 @@ use crate::answers::told;
 use elementary::error::Refusal;
 use elementary::pointer_offset::PointerOffset;
 use memory::data_segment::{Memory, Segmented, View};
-use pool::dynamic_memory::DynamicMemory;
-use pool::static_memory::StaticMemory;
-use std::alloc::Global;
 use std::process::Abort;
-use std::test::Fail;
 
 // A distance in a segment.
 #[derive(Clone, Copy)]
@@ -78,35 +74,9 @@ pub fn play<M: Memory>(rt: &impl Abort, m: &mut M, step: Step, nth: usize) {
     }
 }
 
-fn play_all<M: Memory>(rt: &impl Abort, m: &mut M, steps: &[Step]) {
+// On a new memory.
+pub fn play_all<M: Memory + Drop>(rt: &impl Abort, mut m: M, steps: &[Step]) {
     for (i, step) in steps.iter().enumerate() {
-        play(rt, m, *step, i);
+        play(rt, &mut m, *step, i);
     }
-}
-
-// On a new static memory.
-pub fn in_static(
-    rt: &impl Abort,
-    heap: Global,
-    size: usize,
-    count: usize,
-    steps: &[Step],
-) -> Result<(), Fail> {
-    let mut m = StaticMemory::new(heap, size, count)?;
-    play_all(rt, &mut m, steps);
-    Ok(())
-}
-
-// On a new dynamic memory.
-pub fn in_dynamic(
-    rt: &impl Abort,
-    heap: Global,
-    size: usize,
-    count: usize,
-    capacity: usize,
-    steps: &[Step],
-) -> Result<(), Fail> {
-    let mut m = DynamicMemory::new(heap, size, count, capacity)?;
-    play_all(rt, &mut m, steps);
-    Ok(())
 }

@@ -1,4 +1,4 @@
-// What a bank of links promises. A place that it does not have is an empty one.
+//! What a bank of links promises. A place that it does not have is an empty one.
 ghost use Rattle.std.specs.Prelude.{◌≡◌, Bool, ◌&&◌, length, nat_le};
 ghost use Rattle.std.specs.Result.{result_err};
 ghost use Rattle.std.specs.List.{slice_get};
@@ -16,31 +16,31 @@ use elementary::error::{
 use elementary::link::{ChunkList, End, LinkDetails, Mark, Standing};
 use elementary::pointer_offset::PointerOffset;
 
-// The most that a link can hold: 8 waiting, 8 borrowed, and 17 returned.
+/// The most that a link can hold: 8 waiting, 8 borrowed, and 17 returned.
 pub const MAX_HELD: usize = 33;
 
-// What can be asked of links, which changes nothing.
+/// What can be asked of links, which changes nothing.
 pub trait Links: Sized {
     ghost links: { Self → Places };
 
     fn number_of_places(&self) -> usize
         ensures { result ≡ length (links self.now) };
 
-    // None for an empty place.
+    /// None for an empty place.
     fn details(&self, place: usize) -> Option<LinkDetails>
         ensures { result ≡ details_at (links self.now) place };
 
     fn standing(&self, end: End, place: usize) -> Standing
         ensures { result ≡ standing_at end (links self.now) place };
 
-    // As it counts at a send.
+    /// As it counts at a send.
     fn mark(&self, place: usize) -> Mark
         ensures { result ≡ mark_at (links self.now) place };
 
     fn number_of(&self, list: ChunkList, place: usize) -> usize
         ensures { result ≡ length (entries_at list (links self.now) place) };
 
-    // The entry so many after the oldest.
+    /// The entry so many after the oldest.
     fn entry(&self, list: ChunkList, place: usize, n: usize) -> Option<PointerOffset>
         ensures { result ≡ slice_get (entries_at list (links self.now) place) n };
 
@@ -53,12 +53,12 @@ pub trait Links: Sized {
     ghost sound: { (b : Self) → SoundBank (links b) };
 }
 
-// What can be done with links. Every call but a turn changes one link at most.
+/// What can be done with links. Every call but a turn changes one link at most.
 pub trait Bank: Links {
-    // Whether marks and paces can be set.
+    /// Whether marks and paces can be set.
     ghost rigged: { Bool };
 
-    // Attaches an end: at the link of its ports, or at any empty place.
+    /// Attaches an end: at the link of its ports, or at any empty place.
     fn create(&mut self, end: End, details: LinkDetails) -> Result<usize, ZeroCopyCreationError>
         ensures fault { result_err result ≡ create_fault end (Self.Links.links self.old) details }
         ensures after { Creates end (Self.Links.links self.old) details result (Self.Links.links self.new) };
@@ -83,7 +83,7 @@ pub trait Bank: Links {
         ensures fault { result_err result ≡ release_faults (Self.Links.links self.old) place offset }
         ensures after { Self.Links.links self.new ≡ given_back (Self.Links.links self.old) place offset };
 
-    // Puts into `held` what the link holds for its sender, in any order, and nothing else.
+    /// Puts into `held` what the link holds for its sender, in any order, and nothing else.
     fn detach_sender(
         &mut self,
         place: usize,
@@ -97,7 +97,7 @@ pub trait Bank: Links {
         ensures fault { result_err result ≡ detach_fault End.Receiver (Self.Links.links self.old) place }
         ensures after { Self.Links.links self.new ≡ detached End.Receiver (Self.Links.links self.old) place };
 
-    // Time for the receivers: some list of their moves is made, on whichever links.
+    /// Time for the receivers: some list of their moves is made, on whichever links.
     fn turn(&mut self)
         ensures { Turned (Self.Links.links self.old) (Self.Links.links self.new) };
 
@@ -105,7 +105,7 @@ pub trait Bank: Links {
         ensures fault { result_err result ≡ refused_unless (settable rigged (Self.Links.links self.old) place) }
         ensures after { SetsMark rigged (Self.Links.links self.old) place mark (Self.Links.links self.new) };
 
-    // How many receive-and-release pairs a turn makes at most on the link at a place.
+    /// How many receive-and-release pairs a turn makes at most on the link at a place.
     fn set_pace(&mut self, place: usize, pace: usize) -> Result<(), SettingsError>
         ensures fault { result_err result ≡ refused_unless (settable rigged (Self.Links.links self.old) place && nat_le pace 8) }
         ensures after { Self.Links.links self.new ≡ Self.Links.links self.old };

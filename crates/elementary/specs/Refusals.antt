@@ -23,8 +23,6 @@ use Rattle.elementary.specs.declared.error.ReturnError.{ReturnError}
 use Rattle.elementary.specs.declared.error.ReturnError.TheVariants as returnError
 use Rattle.elementary.specs.declared.error.ReceiveError.{ReceiveError}
 use Rattle.elementary.specs.declared.error.ReceiveError.TheVariants as receiveError
-use Rattle.elementary.specs.declared.error.ReleaseError.{ReleaseError}
-use Rattle.elementary.specs.declared.error.ReleaseError.TheVariants as releaseError
 use Rattle.elementary.specs.declared.error.ReadError.{ReadError}
 use Rattle.elementary.specs.declared.error.ReadError.TheVariants as readError
 use Rattle.elementary.specs.declared.error.UpdateError.{UpdateError}
@@ -63,7 +61,7 @@ abbrev pub receiving_refusal : ZeroCopyReceiveError → Refusal
 receiving_refusal zeroCopyReceiveError.ReceiveWouldExceedMaxBorrowValue = number_alone 14
 receiving_refusal zeroCopyReceiveError.NotConnected = number_alone 15
 
--- why a connection takes no offset back
+-- why a connection takes no offset back, and so why a received chunk is not given back
 abbrev pub releasing_refusal : ZeroCopyReleaseError → Refusal
 releasing_refusal zeroCopyReleaseError.NotBorrowed = number_alone 15
 releasing_refusal zeroCopyReleaseError.RetrieveBufferFull = number_alone 16
@@ -102,11 +100,6 @@ return_refusal returnError.LoanNotLive = number_alone 6
 -- why a subscriber receives nothing though there is data
 abbrev pub receive_refusal : ReceiveError → Refusal
 receive_refusal receiveError.ExceedsMaxBorrows = number_alone 14
-
--- why a received chunk is not given back
-abbrev pub release_refusal : ReleaseError → Refusal
-release_refusal releaseError.NotBorrowed = number_alone 15
-release_refusal releaseError.RetrieveBufferFull = number_alone 16
 
 -- why a received chunk is not read
 abbrev pub read_refusal : ReadError → Refusal

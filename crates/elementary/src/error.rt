@@ -1,7 +1,7 @@
 //! Why a call is refused. Every case has a number, and one of them carries a cause that is a number too.
 ghost use Rattle.std.specs.Prelude.{◌≡◌};
 ghost use Rattle.elementary.specs.declared.error.Refusal.{Refusal};
-ghost use Rattle.elementary.specs.Refusals.{allocation_refusal, deallocation_refusal, creation_refusal, receiving_refusal, releasing_refusal, connection_refusal, loan_refusal, fill_refusal, send_refusal, return_refusal, receive_refusal, release_refusal, read_refusal, update_refusal, close_refusal, settings_refusal, number_alone};
+ghost use Rattle.elementary.specs.Refusals.{allocation_refusal, deallocation_refusal, creation_refusal, receiving_refusal, releasing_refusal, connection_refusal, loan_refusal, fill_refusal, send_refusal, return_refusal, receive_refusal, read_refusal, update_refusal, close_refusal, settings_refusal, number_alone};
 ghost use Rattle.elementary.specs.declared.error.SetUpError.TheVariants.{OutOfRange, NoMemory};
 
 use std::alloc::AllocError;
@@ -124,7 +124,7 @@ impl From<ZeroCopyReceiveError> for Refusal {
     }
 }
 
-/// Why a connection takes no offset back.
+/// Why a connection takes no offset back, and so why a received chunk is not given back.
 #[derive(Clone, Copy, PartialEq, Eq, Debug, Error)]
 pub enum ZeroCopyReleaseError {
     #[error("the chunk is not borrowed")]
@@ -260,23 +260,6 @@ impl From<ReceiveError> for Refusal {
     ghost from_gives = { λ e r. r ≡ receive_refusal e };
 
     fn from(error: ReceiveError) -> Refusal {
-        Refusal::new(error as u8)
-    }
-}
-
-/// Why a received chunk is not given back.
-#[derive(Clone, Copy, PartialEq, Eq, Debug, Error)]
-pub enum ReleaseError {
-    #[error("the chunk is not borrowed")]
-    NotBorrowed = 15,
-    #[error("the list of returned chunks is full")]
-    RetrieveBufferFull = 16,
-}
-
-impl From<ReleaseError> for Refusal {
-    ghost from_gives = { λ e r. r ≡ release_refusal e };
-
-    fn from(error: ReleaseError) -> Refusal {
         Refusal::new(error as u8)
     }
 }

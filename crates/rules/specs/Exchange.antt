@@ -2,7 +2,7 @@
 use Rattle.std.specs.Prelude.{◌≡◌, ℕ, ◌+◌, Bool, true, false, cond, ◌&&◌, List, [], ◌∷◌, ◌++◌, map, replicate, is_some, Some, None, Ok, Err, vec_items, Option, Result, MatchOption, nat_le, slice_index, slice_index_or}
 use Rattle.container.specs.Queue.{has}
 use Rattle.elementary.specs.Ids.{same_port, same_chunk}
-use Rattle.elementary.specs.Refusals.{loan_refusal, fill_refusal, send_refusal, return_refusal, close_refusal, receive_refusal, release_refusal, read_refusal, update_refusal, settings_refusal}
+use Rattle.elementary.specs.Refusals.{loan_refusal, fill_refusal, send_refusal, return_refusal, close_refusal, receive_refusal, releasing_refusal, read_refusal, update_refusal, settings_refusal}
 use Rattle.elementary.specs.declared.port_id.PortId.{PortId}
 use Rattle.elementary.specs.declared.pointer_offset.PointerOffset.{PointerOffset}
 use Rattle.elementary.specs.declared.chunk_details.ChunkDetails.{ChunkDetails}
@@ -153,7 +153,7 @@ Step s (Return id o) a t =
 Step s (ClosePublisher id) a t = AtPub s id (λ g h. (f : Option CloseError) × publisher.Closes g f h × (a ≡ told close_refusal f)) a t
 Step s (Receive id) a t =
     AtSub s id (λ g h. (h ≡ subscriber.receive_after (translation s) g) × (a ≡ told_receive (subscriber.receive_answer (translation s) g))) a t
-Step s (Release id x) a t = AtSub s id (λ g h. (h ≡ subscriber.release_after g x) × (a ≡ told release_refusal (subscriber.release_fault g x))) a t
+Step s (Release id x) a t = AtSub s id (λ g h. (h ≡ subscriber.release_after g x) × (a ≡ told releasing_refusal (subscriber.release_fault g x))) a t
 Step s (Read id x) a t = AtSub s id (λ g h. (h ≡ g) × (a ≡ told_read s x (read_refused s g x))) a t
 Step s (Update id n list) a t = AtSub s id (λ g h. (f : Option UpdateError) × subscriber.Updates (is_known s) g n (vec_items list) f h × (a ≡ told update_refusal f)) a t
 Step s (CloseSubscriber id) a t = AtSub s id (λ g h. (h ≡ subscriber.closed g) × (a ≡ Done)) a t

@@ -14,8 +14,6 @@ use Rattle.elementary.specs.declared.backpressure.DegradationAction.{Degradation
 use Rattle.elementary.specs.declared.backpressure.DegradationAction.TheVariants.{Ignore, Warn, DegradeAndFail}
 use Rattle.elementary.specs.declared.error.ReceiveError.{ReceiveError}
 use Rattle.elementary.specs.declared.error.ReceiveError.TheVariants as receive
-use Rattle.elementary.specs.declared.error.ReleaseError.{ReleaseError}
-use Rattle.elementary.specs.declared.error.ReleaseError.TheVariants as release
 use Rattle.elementary.specs.declared.error.UpdateError.{UpdateError}
 use Rattle.elementary.specs.declared.error.UpdateError.TheVariants as update
 use Rattle.elementary.specs.declared.error.ZeroCopyReceiveError.{ZeroCopyReceiveError}
@@ -359,16 +357,12 @@ receive_after t s = by (expired_walk t s).chunk (with_links (expired_walk t s).h
 
 -- RELEASE
 
-abbrev pub release_error : ZeroCopyReleaseError → ReleaseError
-release_error releasing.NotBorrowed = release.NotBorrowed
-release_error releasing.RetrieveBufferFull = release.RetrieveBufferFull
-
 -- the connection that a chunk came over: its key has one, and that is with its origin
 abbrev pub over : Half → ChunkDetails → Option Stored
 over s x = by (stored_at s x.connection_key) None (λ c. cond (same_port c.peer x.origin) (Some c) None)
 
-abbrev pub release_fault : Half → ChunkDetails → Option ReleaseError
-release_fault s x = by (over s x) (Some release.NotBorrowed) (λ c. option_map release_error (release_faults s.links c.place x.offset))
+abbrev pub release_fault : Half → ChunkDetails → Option ZeroCopyReleaseError
+release_fault s x = by (over s x) (Some releasing.NotBorrowed) (λ c. release_faults s.links c.place x.offset)
 
 abbrev pub release_after : Half → ChunkDetails → Half
 release_after s x = by (over s x) s (λ c. with_links s (given_back s.links c.place x.offset))

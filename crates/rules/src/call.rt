@@ -6,7 +6,7 @@ use elementary::pointer_offset::PointerOffset;
 use elementary::port_id::PortId;
 use elementary::port_list::{PublisherDetails, SubscriberDetails};
 
-#[derive(Drop)]
+#[derive(PartialEq, Eq, Debug, Drop)]
 pub enum Call {
     Loan {
         publisher: PortId,
@@ -60,7 +60,7 @@ pub enum Call {
     },
 }
 
-#[derive(Clone, Copy)]
+#[derive(Clone, Copy, PartialEq, Eq, Debug)]
 pub enum Answer {
     Done,
     Lent(PointerOffset),
