@@ -55,16 +55,16 @@ impl<M: Memory> Feed<M> {
     }
 
     pub(crate) fn is_taken(&self, offset: PointerOffset) -> bool
-        ensures { result ≡ taken_at (M.Segmented.model self.now.memory).segments offset.value }
+        ensures { result ≡ taken_at (M.model self.now.memory).segments offset.value }
     {
         self.memory.is_taken(offset)
     }
 
     // A chunk that its loan holds.
     pub(crate) fn loan(&mut self, size: usize) -> Result<PointerOffset, AllocationError>
-        ensures fault { result_err result ≡ allocation_fault (M.Segmented.model self.old.memory) size 8 }
-        ensures memory { Allocates (M.Segmented.model self.old.memory) size result (M.Segmented.model self.new.memory) }
-        ensures counts { self.new.state ≡ by (result_ok result) self.old.state (λ o. counted (M.Segmented.model self.new.memory).segments self.old.state o.value) }
+        ensures fault { result_err result ≡ allocation_fault (M.model self.old.memory) size 8 }
+        ensures memory { Allocates (M.model self.old.memory) size result (M.model self.new.memory) }
+        ensures counts { self.new.state ≡ by (result_ok result) self.old.state (λ o. counted (M.model self.new.memory).segments self.old.state o.value) }
     {
         let offset = self.memory.allocate(size, 8)?;
         let _ = self.state.borrow_sample(&self.memory, offset);
@@ -73,24 +73,24 @@ impl<M: Memory> Feed<M> {
     }
 
     pub(crate) fn fill(&mut self, offset: PointerOffset, source: &[u8]) -> Result<(), FillError>
-        ensures fault { result_err result ≡ fill_fault (M.Segmented.model self.old.memory) self.old.bytes.items offset.value source.now }
-        ensures bytes { self.new.bytes.items ≡ filled (M.Segmented.model self.old.memory) self.old.bytes.items offset.value source.now }
+        ensures fault { result_err result ≡ fill_fault (M.model self.old.memory) self.old.bytes.items offset.value source.now }
+        ensures bytes { self.new.bytes.items ≡ filled (M.model self.old.memory) self.old.bytes.items offset.value source.now }
         ensures chunks { (self.new.memory ≡ self.old.memory) × (self.new.state ≡ self.old.state) }
     {
         chunk::fill(&self.memory, &mut self.bytes, offset, source)
     }
 
     pub(crate) fn payload(&self, offset: PointerOffset) -> Result<&[u8], ReadError>
-        ensures fault { result_err result ≡ read_fault (M.Segmented.model self.now.memory) self.now.bytes.items offset.value }
-        ensures part { IfOk result (λ p. p.now ≡ payload (M.Segmented.model self.now.memory) self.now.bytes.items offset.value) }
+        ensures fault { result_err result ≡ read_fault (M.model self.now.memory) self.now.bytes.items offset.value }
+        ensures part { IfOk result (λ p. p.now ≡ payload (M.model self.now.memory) self.now.bytes.items offset.value) }
     {
         chunk::payload(&self.memory, &self.bytes, offset)
     }
 
     // One holder more; answers how many there were.
     pub(crate) fn hold(&mut self, offset: PointerOffset) -> u64
-        ensures value { result ≡ count_at (M.Segmented.model self.old.memory).segments self.old.state offset.value }
-        ensures after { chunks_of (M.Segmented.model self.new.memory) self.new.state ≡ borrowed (chunks_of (M.Segmented.model self.old.memory) self.old.state) offset.value }
+        ensures value { result ≡ count_at (M.model self.old.memory).segments self.old.state offset.value }
+        ensures after { chunks_of (M.model self.new.memory) self.new.state ≡ borrowed (chunks_of (M.model self.old.memory) self.old.state) offset.value }
     {
         let (before, _) = self.state.borrow_sample(&self.memory, offset);
         before
@@ -98,8 +98,8 @@ impl<M: Memory> Feed<M> {
 
     // One holder less, and a free bucket if that was the last; answers how many there were.
     pub(crate) fn let_go(&mut self, offset: PointerOffset) -> u64
-        ensures value { result ≡ count_at (M.Segmented.model self.old.memory).segments self.old.state offset.value }
-        ensures after { chunks_of (M.Segmented.model self.new.memory) self.new.state ≡ released (chunks_of (M.Segmented.model self.old.memory) self.old.state) offset.value }
+        ensures value { result ≡ count_at (M.model self.old.memory).segments self.old.state offset.value }
+        ensures after { chunks_of (M.model self.new.memory) self.new.state ≡ released (chunks_of (M.model self.old.memory) self.old.state) offset.value }
     {
         let before = self.state.release_chunk(&mut self.memory, offset);
         if before == 1 {

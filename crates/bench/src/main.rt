@@ -5,7 +5,7 @@ mod feed;
 mod maps;
 
 use anyhow::anyhow;
-use elementary::error::{Refusal, SetUpError};
+use elementary::error::Refusal;
 use elementary::pointer_offset::PointerOffset;
 use feed::Feed;
 use maps::{MAP_BYTES, draw, sum};
@@ -120,20 +120,12 @@ fn second(rt: &impl Print, feed: &mut Feed<StaticMemory>, bytes: &mut [u8]) -> a
 }
 
 fn main(rt: HostRuntime) -> anyhow::Result<()> {
-    run(&rt)
-}
-
-fn run(rt: &HostRuntime) -> anyhow::Result<()> {
     let heap = rt.alloc();
-    let memory = match StaticMemory::new(heap, MAP_BYTES, BUCKETS) {
-        Ok(memory) => memory,
-        Err(SetUpError::OutOfRange) => return Err(anyhow!("the settings are out of range")),
-        Err(SetUpError::NoMemory) => return Err(anyhow!("there is no memory")),
-    };
+    let memory = StaticMemory::new(heap, MAP_BYTES, BUCKETS)?;
     let mut feed = Feed::new(heap, memory)?;
     let mut bytes = vec![in heap; 0u8; MAP_BYTES]?;
     println!(rt; "{MAPS} maps of {MAP_BYTES} bytes over {BUCKETS} buckets")?;
-    second(rt, &mut feed, &mut bytes)?;
+    second(&rt, &mut feed, &mut bytes)?;
     let taken = feed.taken();
     let freed = feed.freed();
     println!(rt; "{taken} buckets taken, {freed} freed")?;

@@ -60,28 +60,28 @@ pub trait Bank: Links {
 
     /// Attaches an end: at the link of its ports, or at any empty place.
     fn create(&mut self, end: End, details: LinkDetails) -> Result<usize, ZeroCopyCreationError>
-        ensures fault { result_err result ≡ create_fault end (Self.Links.links self.old) details }
-        ensures after { Creates end (Self.Links.links self.old) details result (Self.Links.links self.new) };
+        ensures fault { result_err result ≡ create_fault end (Self.links self.old) details }
+        ensures after { Creates end (Self.links self.old) details result (Self.links self.new) };
 
     fn try_send(
         &mut self,
         place: usize,
         offset: PointerOffset,
     ) -> Result<Option<PointerOffset>, ZeroCopySendError>
-        ensures value { result ≡ sends (Self.Links.links self.old) place offset }
-        ensures after { Self.Links.links self.new ≡ sent (Self.Links.links self.old) place offset };
+        ensures value { result ≡ sends (Self.links self.old) place offset }
+        ensures after { Self.links self.new ≡ sent (Self.links self.old) place offset };
 
     fn reclaim(&mut self, place: usize) -> Result<Option<PointerOffset>, ConnectionError>
-        ensures value { result ≡ reclaims (Self.Links.links self.old) place }
-        ensures after { Self.Links.links self.new ≡ reclaimed (Self.Links.links self.old) place };
+        ensures value { result ≡ reclaims (Self.links self.old) place }
+        ensures after { Self.links self.new ≡ reclaimed (Self.links self.old) place };
 
     fn receive(&mut self, place: usize) -> Result<Option<PointerOffset>, ZeroCopyReceiveError>
-        ensures value { result ≡ receives (Self.Links.links self.old) place }
-        ensures after { Self.Links.links self.new ≡ received (Self.Links.links self.old) place };
+        ensures value { result ≡ receives (Self.links self.old) place }
+        ensures after { Self.links self.new ≡ received (Self.links self.old) place };
 
     fn release(&mut self, place: usize, offset: PointerOffset) -> Result<(), ZeroCopyReleaseError>
-        ensures fault { result_err result ≡ release_faults (Self.Links.links self.old) place offset }
-        ensures after { Self.Links.links self.new ≡ given_back (Self.Links.links self.old) place offset };
+        ensures fault { result_err result ≡ release_faults (Self.links self.old) place offset }
+        ensures after { Self.links self.new ≡ given_back (Self.links self.old) place offset };
 
     /// Puts into `held` what the link holds for its sender, in any order, and nothing else.
     fn detach_sender(
@@ -89,24 +89,24 @@ pub trait Bank: Links {
         place: usize,
         held: &mut Queue<PointerOffset, MAX_HELD>,
     ) -> Result<(), ConnectionError>
-        ensures fault { result_err result ≡ detach_fault End.Sender (Self.Links.links self.old) place }
-        ensures after { Self.Links.links self.new ≡ detached End.Sender (Self.Links.links self.old) place }
-        ensures out { IsPermutation (held_at (Self.Links.links self.old) place) (entries held.new) };
+        ensures fault { result_err result ≡ detach_fault End.Sender (Self.links self.old) place }
+        ensures after { Self.links self.new ≡ detached End.Sender (Self.links self.old) place }
+        ensures out { IsPermutation (held_at (Self.links self.old) place) (entries held.new) };
 
     fn detach_receiver(&mut self, place: usize) -> Result<(), ConnectionError>
-        ensures fault { result_err result ≡ detach_fault End.Receiver (Self.Links.links self.old) place }
-        ensures after { Self.Links.links self.new ≡ detached End.Receiver (Self.Links.links self.old) place };
+        ensures fault { result_err result ≡ detach_fault End.Receiver (Self.links self.old) place }
+        ensures after { Self.links self.new ≡ detached End.Receiver (Self.links self.old) place };
 
     /// Time for the receivers: some list of their moves is made, on whichever links.
     fn turn(&mut self)
-        ensures { Turned (Self.Links.links self.old) (Self.Links.links self.new) };
+        ensures { Turned (Self.links self.old) (Self.links self.new) };
 
     fn set_mark(&mut self, place: usize, mark: Mark) -> Result<(), SettingsError>
-        ensures fault { result_err result ≡ refused_unless (settable rigged (Self.Links.links self.old) place) }
-        ensures after { SetsMark rigged (Self.Links.links self.old) place mark (Self.Links.links self.new) };
+        ensures fault { result_err result ≡ refused_unless (settable rigged (Self.links self.old) place) }
+        ensures after { SetsMark rigged (Self.links self.old) place mark (Self.links self.new) };
 
     /// How many receive-and-release pairs a turn makes at most on the link at a place.
     fn set_pace(&mut self, place: usize, pace: usize) -> Result<(), SettingsError>
-        ensures fault { result_err result ≡ refused_unless (settable rigged (Self.Links.links self.old) place && nat_le pace 8) }
-        ensures after { Self.Links.links self.new ≡ Self.Links.links self.old };
+        ensures fault { result_err result ≡ refused_unless (settable rigged (Self.links self.old) place && nat_le pace 8) }
+        ensures after { Self.links self.new ≡ Self.links self.old };
 }

@@ -54,7 +54,7 @@ impl BackpressureHandler for BackpressureAction {
 
 // Where there is no handler, the strategy is followed.
 impl<H: BackpressureHandler> BackpressureHandler for Option<H> {
-    ghost answers = { optional H.BackpressureHandler.answers };
+    ghost answers = { optional H.answers };
 
     fn call(&self, info: BackpressureInfo) -> BackpressureAction {
         match self {

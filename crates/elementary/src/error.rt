@@ -343,9 +343,9 @@ impl From<SettingsError> for Refusal {
 /// Why something is not set up. Want of memory has no number, since no later call can meet it.
 #[derive(Clone, Copy, PartialEq, Eq, Debug, Error)]
 pub enum SetUpError {
-    #[error("a setting is out of range")]
+    #[error("the settings are out of range")]
     OutOfRange,
-    #[error("out of memory")]
+    #[error("there is no memory")]
     NoMemory,
 }
 

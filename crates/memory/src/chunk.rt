@@ -10,8 +10,8 @@ use elementary::pointer_offset::PointerOffset;
 
 /// Where a chunk's payload begins, and how long it is.
 fn locate<M: Segmented>(memory: &M, offset: PointerOffset) -> Option<(usize, usize)>
-    ensures value { result ≡ (if is_chunk (M.Segmented.model memory.now).segments offset.value then Some (place (M.Segmented.model memory.now) offset.value, room (M.Segmented.model memory.now) offset.value) else None) }
-    ensures within { IfSome result (λ p. p.0 + p.1 ≤ (M.Segmented.model memory.now).capacity) }
+    ensures value { result ≡ (if is_chunk (M.model memory.now).segments offset.value then Some (place (M.model memory.now) offset.value, room (M.model memory.now) offset.value) else None) }
+    ensures within { IfSome result (λ p. p.0 + p.1 ≤ (M.model memory.now).capacity) }
 {
     memory.bucket(offset)?;
     let segment = usize::from(offset.segment_id());
@@ -34,8 +34,8 @@ pub fn fill<M: Segmented>(
     offset: PointerOffset,
     source: &[u8],
 ) -> Result<(), FillError>
-    ensures fault { result_err result ≡ fill_fault (M.Segmented.model memory.now) bytes.old offset.value source.now }
-    ensures after { bytes.new ≡ filled (M.Segmented.model memory.now) bytes.old offset.value source.now }
+    ensures fault { result_err result ≡ fill_fault (M.model memory.now) bytes.old offset.value source.now }
+    ensures after { bytes.new ≡ filled (M.model memory.now) bytes.old offset.value source.now }
 {
     let (start, room) = locate(memory, offset).ok_or(FillError::OutOfBounds)?;
     if source.len() > room || bytes.len() < memory.capacity() {
@@ -51,8 +51,8 @@ pub fn payload<'a, M: Segmented>(
     bytes: &'a [u8],
     offset: PointerOffset,
 ) -> Result<&'a [u8], ReadError>
-    ensures fault { result_err result ≡ read_fault (M.Segmented.model memory.now) bytes.now offset.value }
-    ensures part { IfOk result (λ p. p.now ≡ payload (M.Segmented.model memory.now) bytes.now offset.value) }
+    ensures fault { result_err result ≡ read_fault (M.model memory.now) bytes.now offset.value }
+    ensures part { IfOk result (λ p. p.now ≡ payload (M.model memory.now) bytes.now offset.value) }
 {
     let (start, room) = locate(memory, offset).ok_or(ReadError::NotBorrowed)?;
     if !memory.is_taken(offset) {

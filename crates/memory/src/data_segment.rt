@@ -41,7 +41,7 @@ pub trait Segmented: Sized {
     /// One segment, if it is there.
     fn segment(&self, segment: usize) -> Option<&Self::Segment>
         ensures there { is_some result ≡ nat_lt segment (length (model self.now).segments) }
-        ensures buckets { IfSome result (λ s. Self.Segment.Buckets.segment s.now ≡ segment_at (model self.now).segments segment) };
+        ensures buckets { IfSome result (λ s. Self.Segment.segment s.now ≡ segment_at (model self.now).segments segment) };
 
     fn capacity(&self) -> usize
         ensures { result ≡ (model self.now).capacity };
@@ -116,7 +116,7 @@ pub trait View: Sized {
 
     /// Where in the publisher's bytes an offset lies: its segment's start plus its distance, if the view has that segment.
     fn translate<M: Segmented>(&self, memory: &M, offset: PointerOffset) -> Option<usize>
-        ensures { result ≡ placed (M.Segmented.model memory.now).segments (opened self.now) offset.value }
+        ensures { result ≡ placed (M.model memory.now).segments (opened self.now) offset.value }
     {
         let segment = usize::from(offset.segment_id());
         if segment >= self.segments() {
@@ -148,17 +148,17 @@ pub trait Memory: Segmented {
     type View: View + Drop;
 
     fn max_number_of_segments() -> usize
-        ensures { result ≡ Self.Segmented.MAX_SEGMENTS }
+        ensures { result ≡ Self.MAX_SEGMENTS }
     {
         Self::MAX_SEGMENTS
     }
 
     /// Takes a free bucket of at least `size` bytes, of a segment that is there or of one that it makes.
     fn allocate(&mut self, size: usize, align: usize) -> Result<PointerOffset, AllocationError>
-        ensures fault { result_err result ≡ allocation_fault (Self.Segmented.model self.old) size align }
-        ensures after { Allocates (Self.Segmented.model self.old) size result (Self.Segmented.model self.new) };
+        ensures fault { result_err result ≡ allocation_fault (Self.model self.old) size align }
+        ensures after { Allocates (Self.model self.old) size result (Self.model self.new) };
 
     fn deallocate_bucket(&mut self, offset: PointerOffset) -> Result<(), DeallocationError>
-        ensures fault { result_err result ≡ deallocation_fault (Self.Segmented.model self.old) offset.value }
-        ensures after { Self.Segmented.model self.new ≡ freed (Self.Segmented.model self.old) offset.value };
+        ensures fault { result_err result ≡ deallocation_fault (Self.model self.old) offset.value }
+        ensures after { Self.model self.new ≡ freed (Self.model self.old) offset.value };
 }

@@ -97,7 +97,7 @@ impl SegmentState {
 
     /// How many hold a chunk.
     pub fn reference_count<M: Segmented>(&self, memory: &M, offset: PointerOffset) -> u64
-        ensures { result ≡ count_at (M.Segmented.model memory.now).segments self.now offset.value }
+        ensures { result ≡ count_at (M.model memory.now).segments self.now offset.value }
     {
         let segment = usize::from(offset.segment_id());
         memory
@@ -107,8 +107,8 @@ impl SegmentState {
 
     /// One holder more; answers how many there were, and the size of the chunk's bucket.
     pub fn borrow_sample<M: Segmented>(&mut self, memory: &M, offset: PointerOffset) -> (u64, usize)
-        ensures value { result ≡ (count_at (M.Segmented.model memory.now).segments self.old offset.value, (home (M.Segmented.model memory.now).segments offset.value).size) }
-        ensures after { self.new ≡ counted (M.Segmented.model memory.now).segments self.old offset.value }
+        ensures value { result ≡ (count_at (M.model memory.now).segments self.old offset.value, (home (M.model memory.now).segments offset.value).size) }
+        ensures after { self.new ≡ counted (M.model memory.now).segments self.old offset.value }
     {
         let segment = usize::from(offset.segment_id());
         let size = memory.bucket_size(segment);
@@ -122,8 +122,8 @@ impl SegmentState {
 
     /// One holder less; answers how many there were.
     pub fn release_sample<M: Segmented>(&mut self, memory: &M, offset: PointerOffset) -> u64
-        ensures value { result ≡ count_at (M.Segmented.model memory.now).segments self.old offset.value }
-        ensures after { self.new ≡ uncounted (M.Segmented.model memory.now).segments self.old offset.value }
+        ensures value { result ≡ count_at (M.model memory.now).segments self.old offset.value }
+        ensures after { self.new ≡ uncounted (M.model memory.now).segments self.old offset.value }
     {
         let segment = usize::from(offset.segment_id());
         let Some(bucket) = memory.bucket(offset) else {
@@ -136,8 +136,8 @@ impl SegmentState {
 
     /// One holder less, and the bucket is freed if that was the last.
     pub fn release_chunk<M: Memory>(&mut self, memory: &mut M, offset: PointerOffset) -> u64
-        ensures value { result ≡ count_at (M.Segmented.model memory.old).segments self.old offset.value }
-        ensures after { chunks_of (M.Segmented.model memory.new) self.new ≡ released (chunks_of (M.Segmented.model memory.old) self.old) offset.value }
+        ensures value { result ≡ count_at (M.model memory.old).segments self.old offset.value }
+        ensures after { chunks_of (M.model memory.new) self.new ≡ released (chunks_of (M.model memory.old) self.old) offset.value }
     {
         let before = self.release_sample(memory, offset);
         if before == 1 {
