@@ -4,11 +4,12 @@ ghost use Rattle.rules.specs.Pools.{new_pool, segments_of};
 ghost use Rattle.pool.specs.Model.{pools_in};
 ghost use Rattle.pool.specs.Layout.{Sized, Laid, Rising, Even, Spares};
 
+use crate::data_segment_view::DataSegmentView;
 use crate::pool_allocator::{PoolAllocator, SpareSegment};
 use crate::request::{SegmentLayout, check_request};
 use elementary::error::{AllocationError, DeallocationError, SetUpError};
 use elementary::pointer_offset::PointerOffset;
-use memory::data_segment::{DataSegmentView, Memory, Segmented};
+use memory::data_segment::{Memory, Segmented};
 use std::alloc::{AllocError, Global};
 
 // No request is larger than the largest bucket that a segment may have.

@@ -2,11 +2,12 @@
 ghost use Rattle.std.specs.Prelude.{◌≡◌};
 ghost use Rattle.pool.specs.Model.{pool_of};
 
+use crate::data_segment_view::DataSegmentView;
 use crate::pool_allocator::PoolAllocator;
 use crate::request::{SegmentLayout, check_request};
 use elementary::error::{AllocationError, DeallocationError, SetUpError};
 use elementary::pointer_offset::PointerOffset;
-use memory::data_segment::{Buckets, DataSegmentView, Memory, Segmented};
+use memory::data_segment::{Buckets, Memory, Segmented};
 use std::alloc::Global;
 
 #[derive(Drop)]
