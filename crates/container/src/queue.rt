@@ -7,7 +7,8 @@ use std::collections::VecDeque;
 use std::collections::vec_deque::Iter;
 
 /// What it holds is said of its entries, oldest first, and of the limit. No call has a condition: each says what it makes of any queue.
-#[derive(Drop)]
+/// Ghost fields and no model, so that whoever has a queue knows that its entries are within its limit.
+#[derive(Debug, Drop)]
 pub struct Queue<T, const N: usize> {
     items: VecDeque<T>,
     limit: usize,

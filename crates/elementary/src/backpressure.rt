@@ -35,7 +35,8 @@ pub struct BackpressureInfo {
     pub retries: u64,
 }
 
-/// Answers from what it holds and is told, and from nothing else.
+/// Answers from what it holds and is told, and from nothing else. A trait and no closure: the rules need the one answer, and of a closure a
+/// bound says only which answers are possible.
 pub trait BackpressureHandler {
     ghost answers: { Self → BackpressureInfo → BackpressureAction };
 

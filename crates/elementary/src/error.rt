@@ -8,7 +8,8 @@ use std::alloc::AllocError;
 use std::fmt;
 use thiserror::Error;
 
-/// What a refusal tells: its number, and the number of the cause if it carries one. These numbers are what users see and compare.
+/// What a refusal tells: its number, and the number of the cause if it carries one. Numbers and no cases, since these are what users see
+/// and scripts compare. Each error is an enum, and turns into them by `From`: a line each, as no derive gives an enum's discriminant.
 #[derive(Clone, Copy, PartialEq, Eq, Debug)]
 pub struct Refusal {
     pub number: u8,

@@ -2,7 +2,7 @@
 ghost use Rattle.std.specs.Prelude.{◌≡◌, ◌^◌, ◌<◌};
 ghost use Rattle.elementary.specs.Ids.{packed, distance, segment, same_chunk};
 
-/// The bucket's distance from the start of its segment times 256, plus the segment's number.
+/// The bucket's distance from the start of its segment times 256, plus the segment's number: one number, as links carry it and scripts name it.
 #[derive(Clone, Copy, PartialEq, Eq, Debug)]
 pub struct PointerOffset {
     pub value: u64,

@@ -135,7 +135,8 @@ pub trait Memory: Segmented {
         Self::MAX_SEGMENTS
     }
 
-    /// Takes a free bucket of at least `size` bytes, of a segment that is there or of one that it makes.
+    /// Takes a free bucket of at least `size` bytes, of a segment that is there or of one that it makes. Two numbers and no `Layout`, which
+    /// could not hold the alignments that are refused.
     fn allocate(&mut self, size: usize, align: usize) -> Result<PointerOffset, AllocationError>
         ensures fault { result_err result ≡ allocation_fault (Self.model self.old) size align }
         ensures after { Allocates (Self.model self.old) size result (Self.model self.new) };

@@ -13,7 +13,7 @@ use std::marker::Model;
 const MAX_HOLDERS: u64 = 10;
 
 /// The counts of one segment's buckets, none of which passes 10.
-#[derive(Drop)]
+#[derive(Debug, Drop)]
 pub struct ReferenceCounts {
     counts: Vec<u64>,
 }
@@ -53,8 +53,9 @@ impl ReferenceCounts {
     }
 }
 
-/// The counts of all segments that a memory may come to have.
-#[derive(Drop)]
+/// The counts of all segments that a memory may come to have. They are asked with the memory beside them and do not own it, so that the
+/// signatures say that counting changes nothing of it.
+#[derive(Debug, Drop)]
 pub struct SegmentState {
     segments: Vec<ReferenceCounts>,
 }
@@ -73,6 +74,7 @@ impl SegmentState {
         ensures { IfOk result (λ s. s ≡ replicate segments (replicate buckets 0)) }
     {
         let mut rows = Vec::with_capacity(heap, segments)?;
+        // A plain count; the memory for all rows is there already.
         for _ in 0..segments {
             rows.push_reserved(ReferenceCounts::new(heap, buckets)?);
         }

@@ -3,7 +3,7 @@
 use memory::data_segment::View;
 
 /// The view of a memory that has at most so many segments.
-#[derive(Drop)]
+#[derive(Clone, Copy, PartialEq, Eq, Debug)]
 pub struct DataSegmentView<const MAX_SEGMENTS: usize> {
     segments: usize,
 }

@@ -15,7 +15,7 @@ use std::alloc::{AllocError, Global};
 // No request is larger than the largest bucket that a segment may have.
 const LARGEST: usize = 65536;
 
-#[derive(Drop)]
+#[derive(Debug, Drop)]
 pub struct DynamicMemory {
     live: Vec<PoolAllocator>,
     // Segments to be: they hold their memory already, so that making one allocates nothing.
@@ -48,6 +48,7 @@ fn three_spares(heap: Global, layout: SegmentLayout) -> Result<Vec<SpareSegment>
     ensures { IfOk result (λ v. Spares v.items layout.count × (vec_len v ≡ 3)) }
 {
     let mut spare = Vec::with_capacity(heap, 3)?;
+    // A plain count; the memory for all three is there already.
     for _ in 0..3usize {
         spare.push_reserved(SpareSegment::new(heap, layout)?);
     }

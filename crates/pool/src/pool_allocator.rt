@@ -7,7 +7,8 @@ use crate::request::SegmentLayout;
 use memory::data_segment::Buckets;
 use std::alloc::{AllocError, Global};
 
-#[derive(Drop)]
+/// Ghost fields and no model, here and in the memories: the law of every memory is proved of its fields' facts.
+#[derive(Debug, Drop)]
 pub struct PoolAllocator {
     start: usize,
     bucket_size: usize,
@@ -91,7 +92,7 @@ impl Buckets for PoolAllocator {
 }
 
 /// The memory for a segment to be, reserved so that making the segment allocates nothing.
-#[derive(Drop)]
+#[derive(Debug, Drop)]
 pub struct SpareSegment {
     taken: Vec<bool>,
     freed: Vec<usize>,

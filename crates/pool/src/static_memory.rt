@@ -10,7 +10,7 @@ use elementary::pointer_offset::PointerOffset;
 use memory::data_segment::{Buckets, Memory, Segmented};
 use std::alloc::Global;
 
-#[derive(Drop)]
+#[derive(Debug, Drop)]
 pub struct StaticMemory {
     pool: PoolAllocator,
     ghost low: { (pool_of pool).buckets.start ≡ 0 },

@@ -1,7 +1,0 @@
-use Rattle.std.proofs.Common.{rules}
-use Rattle.std.proofs.lemmas.Slice.{overwrites}
-use Rattle.std.proofs.lemmas.List.{drop-drop}
-use Rattle.memory.proofs.chunk.overwrite.Goals as goal
-
-pub returns : goal.returns
-returns c = search (rules, overwrites, drop-drop)
