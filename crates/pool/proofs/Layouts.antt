@@ -1,6 +1,6 @@
 -- What a change of one segment, or one segment more, leaves of a dynamic memory's layout.
 use Rattle.std.specs.Prelude.{◌≡◌, ℕ, ◌+◌, ◌*◌, ◌<◌, List, [], ◌∷◌, ◌++◌, map, length, set, Some, None, vec_items, vec_len, Option, Vec, slice_index, slice_index_or, slice_set, refl}
-use Rattle.std.proofs.Common.{sym, ◌∙◌, ap, subst, ⊎_elim, arith, zero-add}
+use Rattle.std.proofs.Common.{sym, ◌∙◌, ap, subst, ⊎_elim, arith}
 use Rattle.std.specs.declared.alloc.Global.{Global}
 use Rattle.std.proofs.lemmas.List.{get_or-set_same, get_or-set_other, set_past, length-set, get_or-map, length-map, map-set, map_push, length_push, get_or_append_left, get_or_push}
 use Rattle.std.proofs.lemmas.Bool.{cases_lt, cases_eq}
@@ -113,12 +113,6 @@ layout_push gs g end count st ct l =
           (λ new. let at : length gs ≡ k = omega arith in ap (λ (z : Segment). length z.taken) (push_new gs g k at) ∙ ct)
           (cases_lt k (length gs));
     }
-
--- a layout of one segment
-pub layout_one : (g : Segment) (count : ℕ) → g.start ≡ 0 → length g.taken ≡ count → Layout (g ∷ []) (g.size * count) count
-layout_one g count st ct =
-    subst (λ e. Layout (g ∷ []) e count) (zero-add (g.size * count))
-    (layout_push [] g 0 count st ct (record { laid = λ k h. absurd (omega arith); rising = λ j k h lk. absurd (omega arith); even = λ k h. absurd (omega arith) }))
 
 -- SEGMENTS TO BE
 

@@ -17,8 +17,5 @@ small c =
 pub overflow_mul-bucket : goal.overflow_mul-bucket
 overflow_mul-bucket c = omega (arith, small c)
 
-pub overflow_cast-segment : goal.overflow_cast-segment
-overflow_cast-segment c = omega (arith, (taking c).there, c.args.self.now.live.ok.0, c.args.self.now.four)
-
 pub from_offset_and_segment_id-requires : goal.from_offset_and_segment_id-requires
 from_offset_and_segment_id-requires c = omega (arith, small c)

@@ -1,17 +1,10 @@
-use Rattle.std.proofs.Common.{false, get_or, set, sym, ap, ◌∙◌}
+use Rattle.std.proofs.Common.{set, sym, ap, ◌∙◌}
 use Rattle.std.proofs.lemmas.Bool.{cond-true}
 use Rattle.elementary.specs.Ids.{segment}
 use Rattle.rules.specs.Pools.{pool_at, gave, with_pools, dynamic_mem}
 use Rattle.pool.specs.Dynamic.{dynamic_of}
 use Rattle.pool.proofs.Dynamics.{taken_bucket, dynamic_frees}
 use Rattle.pool.proofs.dynamic_memory.DynamicMemoryMemory.deallocate_bucket.Goals as goal
-
-pub give_in-requires : goal.give_in-requires
-give_in-requires c =
-    let ps = (dynamic_of c.args.self.now).pools in
-    let b = c.in_ok-bucket.bucket in
-    ap (λ k. get_or (pool_at ps k).buckets.taken b false) (c.from.ensures ∙ c.segment_id.ensures)
-    ∙ (taken_bucket ps c.args.offset.value b (sym c.in_ok-bucket.ensures.ok_part ∙ c.taken_bucket.ensures)).2
 
 pub returns : goal.returns
 returns c =
