@@ -1,7 +1,11 @@
 -- Every call keeps a bank sound.
-use Rattle.std.proofs.Common.{◌≡◌, ℕ, zero, suc, ◌+◌, ◌<◌, ◌≤◌, Bool, true, false, cond, ◌&&◌, ◌||◌, ltb, ◌⊎◌, List, [], ◌∷◌, ◌++◌, length, set, is_some, is_ok, Some, None, Ok, Err, fold, Option, sym, refl, ap, ◌∙◌, subst, inl, inr, ⊎_elim, arith}
+use Rattle.std.proofs.Common.{◌≡◌, ℕ, ◌+◌, ◌<◌, ◌≤◌, Bool, true, false, cond, ◌&&◌, ◌||◌, ltb, ◌⊎◌, List, [], ◌∷◌, ◌++◌, length, set, is_some, is_ok, Some, None, Ok, Err, fold, Option, sym, refl, ap, ◌∙◌, subst, inl, inr, ⊎_elim, arith}
+use Rattle.std.specs.List.{position_or_len}
 use Rattle.std.specs.Option.{option_map, option_to_list}
-use Rattle.std.proofs.lemmas.List.{get_or-set_same, get_or-set_other, set_past, length-append, length_push}
+use Rattle.std.proofs.lemmas.Option.{none-some}
+use Rattle.std.proofs.lemmas.List.{get_or_past, length-append, length_push}
+use Rattle.std.proofs.lemmas.List.Sums.{passes_at_first, fails_before_first}
+use Rattle.std.proofs.lemmas.List.Recursion.{is_position_or_len}
 use Rattle.std.proofs.lemmas.Bool.{cases_eq, cases_lt, cases_Bool, and_parts, and_from, eqb-true, or_parts, cond_both, cond-true, cond-false, ltb-true, ltb-false, eq-eqb, ne_eqb, eqb-false, lt-ltb, le-ltb, or_left, or_right, false≢true, true≢false}
 use Rattle.container.specs.Queue.{oldest, later, roomy, overflowed, evicted, has, without}
 use Rattle.elementary.specs.Ids.{same_chunk, same_port}
@@ -18,11 +22,11 @@ use Rattle.elementary.specs.declared.link.Mark.{Mark}
 use Rattle.elementary.specs.declared.link.Mark.TheVariants.{Sound, Corrupted, Broken}
 use Rattle.elementary.specs.declared.error.ZeroCopySendError.TheVariants as sending
 use Rattle.elementary.specs.declared.error.ZeroCopyReleaseError.TheVariants as releasing
-use Rattle.elementary.specs.declared.error.ZeroCopyCreationError.{ZeroCopyCreationError}
 use Rattle.elementary.specs.declared.error.ZeroCopyCreationError.TheVariants as creating
 use Rattle.rules.specs.Pools.{by}
 use Rattle.rules.specs.Links.{Link, Proper, attached, never, standing, next_standing, stepped, alive, fresh, listed, lists, times, with_lists, marked_send, send_answer, send_after, reclaim_after, can_borrow, receive_after, release_fault, release_after, most_returned}
 use Rattle.rules.specs.Bank.{Places, at, changed, sent, reclaimed, first, between, connects, join_fault, bad_buffer, bad_borrow, create_fault, MayTake, created, kept, detached, Move, receive_at, release_at, moved, Turned, Goes, settable, with_mark, Marked, SetsMark, SoundBank, Lasts}
+use Rattle.rules.proofs.Lists.{set_cases}
 use Rattle.rules.proofs.Offsets.{one, times_append, times_push, times_split, later_short, absent_times, without_times, without_length, overflowed_length, overflowed_times}
 
 -- LISTS OF A LINK
@@ -138,12 +142,9 @@ pub changed_at : (ps : Places) (i : ℕ) (f : Link → Link) (j : ℕ) (l : Link
     → (k : Link) × (at ps j ≡ Some k) × (((l ≡ f k) × (j ≡ i)) ⊎ (l ≡ k))
 changed_at ps i f j l e =
     ⊎_elim
-    (λ same. ⊎_elim
-    (λ lt. made (at ps i) refl (sym (get_or-set_same ps i (option_map f (at ps i)) None lt) ∙ (ap (λ k. at (changed ps i f) k) (sym same) ∙ e)) same)
-    (λ past. (l, ap (λ qs. at qs j) (sym (set_past ps i (option_map f (at ps i)) past)) ∙ e, inr refl))
-    (cases_lt i (length ps)))
-    (λ other. (l, sym (get_or-set_other ps i j (option_map f (at ps i)) None other) ∙ e, inr refl))
-    (cases_eq j i)
+    (λ new. made (at ps i) refl (sym new.1 ∙ e) new.0)
+    (λ old. (l, sym old.1 ∙ e, inr refl))
+    (set_cases ps i (option_map f (at ps i)) None j)
   where
     made : (x : Option Link) → at ps i ≡ x → option_map f x ≡ Some l → j ≡ i → (k : Link) × (at ps j ≡ Some k) × (((l ≡ f k) × (j ≡ i)) ⊎ (l ≡ k))
     made None ex em same = let z : ◌≡◌ {A = ℕ} 0 1 = cc in absurd (omega arith)
@@ -195,14 +196,7 @@ between_sym d e b =
         and_from _ _ (eq-eqb _ _ (sym (eqb-true x.high y.high r.0))) (eq-eqb _ _ (sym (eqb-true x.low y.low r.1)))
 
 pub set_place : (ps : Places) (i : ℕ) (x : Option Link) (j : ℕ) (l : Link) → at (set ps i x) j ≡ Some l → ((j ≡ i) × (x ≡ Some l)) ⊎ (at ps j ≡ Some l)
-set_place ps i x j l e =
-    ⊎_elim
-    (λ same. ⊎_elim
-    (λ lt. inl (same, sym (get_or-set_same ps i x None lt) ∙ (ap (at (set ps i x)) (sym same) ∙ e)))
-    (λ past. inr (ap (λ qs. at qs j) (sym (set_past ps i x past)) ∙ e))
-    (cases_lt i (length ps)))
-    (λ other. inr (sym (get_or-set_other ps i j x None other) ∙ e))
-    (cases_eq j i)
+set_place ps i x j l e = ⊎_elim (λ new. inl (new.0, sym new.1 ∙ e)) (λ old. inr (sym old.1 ∙ e)) (set_cases ps i x None j)
 
 -- events change neither lists nor details
 event_details : (end : End) (e : Event) (l : Link) → (stepped end e l).details ≡ l.details
@@ -258,24 +252,16 @@ sound_detached end ps i s =
 
 -- CREATING
 
+-- the first place is the library's
+is_first : (t : Option Link → Bool) (ps : Places) → first t ps ≡ position_or_len t ps
+is_first t = is_position_or_len (first t) t refl (λ p ps. ap (cond (t p) 0) (omega arith))
+
 pub first_found : (t : Option Link → Bool) (ps : Places) → first t ps < length ps → t (at ps (first t ps)) ≡ true
-first_found t [] h = absurd (omega arith)
-first_found t (p ∷ ps) h =
-    ⊎_elim
-    (λ yes. ap (λ n. t (at (p ∷ ps) n)) (cond-true _ 0 (suc (first t ps)) yes) ∙ yes)
-    (λ no. let e = cond-false (t p) 0 (suc (first t ps)) no in
-    ap (λ n. t (at (p ∷ ps) n)) e ∙ first_found t ps (omega (arith, e)))
-    (cases_Bool (t p))
+first_found t ps h = let e = is_first t ps in ap (λ n. t (at ps n)) e ∙ passes_at_first t ps None (omega (arith, e))
 
 pub first_none : (t : Option Link → Bool) (ps : Places) → t None ≡ false → length ps ≤ first t ps → (j : ℕ) → t (at ps j) ≡ false
-first_none t [] n h j = n
-first_none t (p ∷ ps) n h zero =
-    ⊎_elim (λ yes. absurd (omega (arith, cond-true (t p) 0 (suc (first t ps)) yes))) (λ no. no) (cases_Bool (t p))
-first_none t (p ∷ ps) n h (suc j) =
-    ⊎_elim
-    (λ yes. absurd (omega (arith, cond-true (t p) 0 (suc (first t ps)) yes)))
-    (λ no. first_none t ps n (omega (arith, cond-false (t p) 0 (suc (first t ps)) no)) j)
-    (cases_Bool (t p))
+first_none t ps n h j =
+    ⊎_elim (λ lt. fails_before_first t ps j None (omega (arith, is_first t ps))) (λ past. ap t (get_or_past ps j None past) ∙ n) (cases_lt j (length ps))
 
 -- an end that was never attached is attached now
 attach_alive : (end : End) (l : Link) → never (standing end l) ≡ true → alive (stepped end Attach l) ≡ true
@@ -298,23 +284,20 @@ pub record Creatable (end : End) (ps : Places) (d : LinkDetails) : Type 0 where
   pub joined : first (connects d) ps < length ps → (l : Link) → at ps (first (connects d) ps) ≡ Some l → never (standing end l) ≡ true
   pub borrow : length ps ≤ first (connects d) ps → bad_borrow d ≡ false
 
-some_fault : (x : Option ZeroCopyCreationError) (e : ZeroCopyCreationError) → Some e ≡ x → x ≡ None → ⊥
-some_fault x e a b = let z : ◌≡◌ {A = ℕ} 0 1 = cc in omega arith
-
 pub creatable : (end : End) (ps : Places) (d : LinkDetails) → create_fault end ps d ≡ None → Creatable end ps d
 creatable end ps d e = record {
-  buffer = ⊎_elim (λ bad. absurd (some_fault _ _ (sym (cond-true (bad_buffer d) _ _ bad)) e)) (λ ok. ok) (cases_Bool (bad_buffer d));
+  buffer = good e;
   joined = λ lt l el. ⊎_elim (λ yes. yes)
-      (λ no. absurd (some_fault _ creating.AnotherInstanceIsAlreadyConnected
-      (sym (cond-false _ _ _ (good e) ∙ (cond-true _ _ _ (lt-ltb _ _ lt) ∙ (ap (λ x. by x None (join_fault end d)) el ∙ cond-false _ _ _ no)))) e))
+      (λ no. absurd (none-some creating.AnotherInstanceIsAlreadyConnected
+      (sym e ∙ (cond-false _ _ _ (good e) ∙ (cond-true _ _ _ (lt-ltb _ _ lt) ∙ (ap (λ x. by x None (join_fault end d)) el ∙ cond-false _ _ _ no))))))
       (cases_Bool (never (standing end l)));
   borrow = λ le. ⊎_elim
-      (λ bad. absurd (some_fault _ creating.IncompatibleSettings (sym (cond-false _ _ _ (good e) ∙ (cond-false _ _ _ (le-ltb _ _ le) ∙ cond-true _ _ _ bad))) e))
+      (λ bad. absurd (none-some creating.IncompatibleSettings (sym e ∙ (cond-false _ _ _ (good e) ∙ (cond-false _ _ _ (le-ltb _ _ le) ∙ cond-true _ _ _ bad)))))
       (λ ok. ok) (cases_Bool (bad_borrow d));
 }
   where
     good : create_fault end ps d ≡ None → bad_buffer d ≡ false
-    good f = ⊎_elim (λ bad. absurd (some_fault _ _ (sym (cond-true (bad_buffer d) _ _ bad)) f)) (λ ok. ok) (cases_Bool (bad_buffer d))
+    good f = ⊎_elim (λ bad. absurd (none-some _ (sym f ∙ cond-true (bad_buffer d) _ _ bad))) (λ ok. ok) (cases_Bool (bad_buffer d))
 
 -- a new link with one end
 never_fresh : (end : End) (d : LinkDetails) → never (standing end (fresh d)) ≡ true

@@ -1,14 +1,14 @@
 -- What an offset names: the segment and the bucket of a chunk, and the bytes that it has.
-use Rattle.std.proofs.Common.{◌≡◌, ℕ, ◌+◌, ◌*◌, ◌/◌, ◌%◌, ◌^◌, ◌<◌, ◌≤◌, Bool, true, false, cond, not, List, length, get_or, set, Some, None, Option, sym, refl, ap, ◌∙◌, inl, inr, ⊎_elim, mul-le-mul_right, mul_comm, add-mul, mul-div_cancel, arith}
+use Rattle.std.proofs.Common.{◌≡◌, ℕ, ◌+◌, ◌*◌, ◌/◌, ◌%◌, ◌^◌, ◌<◌, ◌≤◌, Bool, true, false, cond, not, List, length, get_or, set, Some, None, Option, sym, refl, ap, ◌∙◌, inl, inr, ⊎_elim, mul-div_cancel, arith}
 use native.Mathlib.Nat.{mul-mod_left}
-use Rattle.std.proofs.lemmas.List.{get_or_past}
-use Rattle.std.proofs.lemmas.Nat.{div-add-mod', div-mul-add, mod-mul-add}
-use Rattle.std.proofs.lemmas.Bool.{and_parts, and_from, eqb-true, eq-eqb, ltb-true, lt-ltb, cases_lt, cases_order, cases_Bool, cond-false}
+use Rattle.std.proofs.lemmas.Nat.{row_fits, row_fits_turned, div-add-mod', div-mul-add, mod-mul-add}
+use Rattle.std.proofs.lemmas.Bool.{and_parts, and_from, eqb-true, eq-eqb, ltb-true, lt-ltb, cases_order}
 use Rattle.std.proofs.lemmas.Bool.Decides.{nat_tests}
 use Rattle.elementary.specs.Ids.{packed, distance, segment}
-use Rattle.rules.specs.Memory.{Mem, Segment, Sound, segment_at, no_segment, home, bucket, is_chunk, bucket_at, offset_of, end_of, start_of, with_segments, remarked, Takes}
+use Rattle.rules.specs.Memory.{Mem, Segment, Sound, segment_at, no_segment, home, bucket, is_chunk, offset_of, end_of, start_of, with_segments, remarked, Takes}
 use Rattle.rules.specs.Bytes.{place, room}
 use Rattle.rules.specs.Laws.{NoByteShared, WithinCapacity}
+use Rattle.rules.proofs.Lists.{within}
 
 -- a chunk's distance is that of its bucket, which is there
 pub chunk_bucket : (gs : List Segment) (o : ℕ) → is_chunk gs o ≡ true
@@ -20,10 +20,7 @@ chunk_bucket gs o e =
     (omega arith, ltb-true _ _ a.1)
 
 pub chunk_there : (gs : List Segment) (o : ℕ) → is_chunk gs o ≡ true → segment o < length gs
-chunk_there gs o e =
-    ⊎_elim (λ h. h)
-    (λ past. absurd (omega (arith, (chunk_bucket gs o e).1, ap (λ (g : Segment). length g.taken) (get_or_past gs (segment o) no_segment past))))
-    (cases_lt (segment o) (length gs))
+chunk_there gs o e = within gs (segment o) no_segment (λ none. omega (arith, (chunk_bucket gs o e).1, ap (λ (g : Segment). length g.taken) none))
 
 -- an offset is its two parts
 pub unpacked : (o : ℕ) → packed (distance o) (segment o) ≡ o
@@ -52,18 +49,12 @@ named gs s b h pos lt =
     let en = ap (λ (g : Segment). length g.taken) eh in
     (es, eb, and_from _ _ (eq-eqb _ _ em) (lt-ltb _ _ (omega arith)))
 
--- a bucket ends before the next begins, and within its segment
-row : (b n z : ℕ) → b < n → b * z + z ≤ n * z
-row b n z h =
-    let e : (b + 1) * z ≤ n * z = mul-le-mul_right z (omega arith) in
-    omega (arith, e, add-mul b 1 z)
-
+-- a bucket ends within its segment
 pub chunk_within : (m : Mem) (o : ℕ) → is_chunk m.segments o ≡ true → place m o + room m o ≤ end_of (home m.segments o)
 chunk_within m o e =
     let gs = m.segments in
     let c = chunk_bucket gs o e in
-    let r = row (bucket gs o) (length (home gs o).taken) (home gs o).size c.1 in
-    omega (arith, r, c.0, mul_comm (home gs o).size (length (home gs o).taken))
+    omega (arith, row_fits_turned (bucket gs o) (home gs o).size (home gs o).size (length (home gs o).taken) c.1 (omega arith), c.0)
 
 pub within_capacity : WithinCapacity
 within_capacity limit m o sound e =
@@ -71,12 +62,12 @@ within_capacity limit m o sound e =
     let s = (sound.shaped (segment o) (chunk_there m.segments o e)).within in
     omega arith
 
--- two chunks of one segment
+-- and before the next one begins
 before : (m : Mem) (o p : ℕ) → is_chunk m.segments o ≡ true → is_chunk m.segments p ≡ true → segment o ≡ segment p
     → bucket m.segments o < bucket m.segments p → place m o + room m o ≤ place m p
 before m o p co cp s lt =
     let gs = m.segments in
-    let r = row (bucket gs o) (bucket gs p) (home gs o).size lt in
+    let r = row_fits (bucket gs o) (home gs o).size (bucket gs p) (home gs o).size lt (omega arith) in
     let h : home gs o ≡ home gs p = ap (segment_at gs) s in
     let e : bucket gs p * (home gs o).size ≡ distance p = ap (λ (g : Segment). bucket gs p * g.size) h ∙ sym (chunk_bucket gs p cp).0 in
     omega (arith, r, e, (chunk_bucket gs o co).0, ap (λ (g : Segment). g.start) h)
@@ -96,27 +87,11 @@ no_byte_shared limit m o p sound co cp ne =
     (λ gt. ⊎_elim (λ a. inr (omega arith)) (λ a. inl (omega arith)) (sound.apart (segment p) (segment o) gt (chunk_there gs o co))))
     (cases_order (segment o) (segment p))
 
--- a segment whose buckets have no size is not there, so that no offset names a bucket of it
-pub sizeless : (limit : ℕ) (m : Mem) (o : ℕ) → Sound limit m → (home m.segments o).size ≡ 0 → bucket_at m.segments o ≡ None
-sizeless limit m o sound z =
-    ⊎_elim
-    (λ c. absurd (omega (arith, (sound.shaped (segment o) (chunk_there m.segments o c)).fair.1)))
-    (λ c. cond-false _ _ _ c)
-    (cases_Bool (is_chunk m.segments o))
-
 -- a segment's start is a small number
 pub start_low : (limit : ℕ) (m : Mem) (s x : ℕ) → Sound limit m → Some x ≡ start_of m.segments s → x < 2 ^ 63
 start_low limit m s x sound e =
     let found : (s < length m.segments) × (x ≡ (segment_at m.segments s).start) = grind (arith, nat_tests) in
     omega (arith, found.1, (sound.shaped s found.0).low)
-
--- an offset of a segment that has no start names nothing
-pub startless : (gs : List Segment) (o : ℕ) → None ≡ start_of gs (segment o) → is_chunk gs o ≡ false
-startless gs o e =
-    ⊎_elim
-    (λ c. let h = chunk_there gs o c in absurd (grind (arith, nat_tests)))
-    (λ c. c)
-    (cases_Bool (is_chunk gs o))
 
 -- what a search for a chunk's bytes found lies within the capacity
 pub located : (limit : ℕ) (m : Mem) (o start size : ℕ) → Sound limit m

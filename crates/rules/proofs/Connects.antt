@@ -1,7 +1,8 @@
 -- A new link, with the history that it gets, keeps a publisher in order.
-use Rattle.std.proofs.Common.{◌≡◌, ℕ, zero, suc, ◌+◌, ◌-◌, ◌<◌, ◌≤◌, true, false, ◌&&◌, eqb, ltb, ◌⊎◌, List, [], ◌∷◌, ◌++◌, length, get_or, drop, set, is_some, Some, None, Ok, Err, fold, Option, Result, sym, refl, ap, ◌∙◌, subst, inl, inr, ⊎_elim, arith, MatchOption}
+use Rattle.std.proofs.Common.{cond, ◌≡◌, ℕ, ◌+◌, ◌-◌, ◌<◌, ◌≤◌, true, false, ◌&&◌, eqb, ltb, ◌⊎◌, List, [], ◌∷◌, ◌++◌, length, get_or, set, is_some, Some, None, Ok, Err, fold, Option, Result, sym, refl, ap, ◌∙◌, subst, inl, inr, ⊎_elim, arith, MatchOption}
+use Rattle.std.proofs.lemmas.Option.{same_Some}
+use Rattle.std.proofs.lemmas.List.Sums.{sum_by-take-drop, sum_by-set}
 use Rattle.std.proofs.lemmas.List.{get_or-set_same, get_or-set_other, length-set}
-use Rattle.std.proofs.lemmas.List.Sums.{sum_by-set}
 use Rattle.std.proofs.lemmas.Bool.{cases_Bool, cases_eq, cases_lt, cond-true, cond-false, lt-ltb, ltb-false, and_parts, and_from, eq-eqb, eqb-true, false≢true}
 use Rattle.elementary.specs.Ids.{same_port}
 use Rattle.elementary.specs.declared.port_id.PortId.{PortId}
@@ -20,6 +21,7 @@ use Rattle.rules.specs.Links.{Link, attached, never, next_standing, stepped, fre
 use Rattle.rules.specs.Bank.{Places, at, sends, between, agree, connects, join_fault, first, create_fault, MayTake, SafeBank}
 use Rattle.rules.specs.Publisher.{Connection, Side, slot_at, with_slots, wanted, connect_fault, taken_up, handed, last_of, connected, Connects, reclaimed_all}
 use Rattle.rules.specs.Books.{mine, held_here, held_by, owns, Wired, InOrder}
+use Rattle.rules.proofs.Lists.{set_cases}
 use Rattle.rules.proofs.Offsets.{one, times_cons}
 use Rattle.rules.proofs.Banks.{creatable, found_link, first_found}
 use Rattle.rules.proofs.Safe.{safe_created, never_attached}
@@ -90,11 +92,8 @@ joined_at g i c l = record { port = with_slots g.port (set g.port.slots i (Some 
 
 slot_now : (xs : List (Option Connection)) (i : ℕ) (c : Connection) (j : ℕ) (d : Connection) → i < length xs → get_or (set xs i (Some c)) j None ≡ Some d
     → ((j ≡ i) × (d ≡ c)) ⊎ ((j ≡ i → ⊥) × (get_or xs j None ≡ Some d))
-slot_now xs i c j d lt e = ⊎_elim
-    (λ same. let f : ◌≡◌ {A = Option Connection} (Some c) (Some d) = sym (get_or-set_same xs i (Some c) None lt) ∙ (ap (λ k. get_or (set xs i (Some c)) k None) (sym same) ∙ e) in
-    let g : d ≡ c = cc in inl (same, g))
-    (λ other. inr (other, sym (get_or-set_other xs i j (Some c) None other) ∙ e))
-    (cases_eq j i)
+slot_now xs i c j d lt e =
+    ⊎_elim (λ new. inl (new.0, same_Some d c (sym e ∙ new.1))) (λ old. inr (old.0 lt, sym old.1 ∙ e)) (set_cases xs i (Some c) None j)
 
 wire_joined : (g : Side) (i : ℕ) (c : Connection) (l : Link) → i < length g.port.slots → c.place < length g.links → slot_at g.port i ≡ None
     → ((a : PortId) → owns a (at g.links c.place) ≡ false) → mine g.port.id l ≡ true → Wired g.port g.links → Wired (joined_at g i c l).port (joined_at g i c l).links
@@ -214,11 +213,6 @@ hand_all loans hand (o ∷ os) g s c there safe kept single k =
     (λ x some. let z = kept x (omega (arith, times_cons o os x.value, some)) in omega (arith, ap (λ l. times l x.value) a.passage.history, z)) single a.order in
     record { order = b.order; passage = passage_trans a.passage b.passage; slots = b.slots ∙ a.slots }
 
-dropped_times : (n : ℕ) (xs : List PointerOffset) (o : ℕ) → times (drop n xs) o ≤ times xs o
-dropped_times zero xs o = omega arith
-dropped_times (suc n) [] o = omega arith
-dropped_times (suc n) (x ∷ xs) o = omega (arith, dropped_times n xs o, times_cons x xs o)
-
 -- CONNECTING
 
 pub record Joined (loans hand : List PointerOffset) (g h : Side) : Type 0 where
@@ -244,7 +238,7 @@ connect loans hand g e q none may lt vacant safe single k =
     let m = joined_at g e.place c l in
     let p = join_passes g e.place c d l may.within f (safe_created Sender g.links d q b.1 may) b.0 refl in
     let r = hand_all loans hand (last_of e.buffer_size g.port.history) m e.place c (get_or-set_same g.port.slots e.place (Some c) None lt) (p.course.bank safe)
-    (λ o some. omega (arith, dropped_times (length g.port.history - e.buffer_size) g.port.history o.value, some)) single
+    (λ o some. omega (arith, sum_by-take-drop (λ (x : PointerOffset). cond (eqb x.value o.value) 1 0) g.port.history (length g.port.history - e.buffer_size), some)) single
     (join_order loans hand g e.place c d l lt may.within vacant f k) in
     record { order = r.order; passage = passage_trans p r.passage }
 

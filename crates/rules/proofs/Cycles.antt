@@ -1,13 +1,15 @@
 -- What a cycle does to the slots keeps a publisher in order.
-use Rattle.std.proofs.Common.{◌≡◌, ℕ, zero, suc, ◌+◌, ◌-◌, ◌^◌, ltb, List, [], ◌∷◌, map, length, get_or, set, is_some, Some, None, Option, sym, refl, ap, ◌∙◌, subst, ⊎_elim, arith}
+use Rattle.std.proofs.Common.{◌≡◌, ℕ, ◌+◌, ◌-◌, ◌^◌, ltb, List, length, get_or, set, is_some, Some, None, Option, sym, refl, ap, ◌∙◌, subst, ⊎_elim, arith}
 use Rattle.std.specs.Option.{option_map}
-use Rattle.std.proofs.lemmas.List.{get_or-set_same, get_or-set_other, set_past, length-set, length-map}
-use Rattle.std.proofs.lemmas.Bool.{cases_Bool, cases_eq, cases_lt, cond-true, cond-false, false≢true}
+use Rattle.std.proofs.lemmas.List.{length-set, length-map}
+use Rattle.std.proofs.lemmas.Bool.{cases_Bool, cond-true, cond-false, false≢true}
+use Rattle.std.proofs.Math.ListN.{get_or-map}
 use Rattle.elementary.specs.declared.pointer_offset.PointerOffset.{PointerOffset}
 use Rattle.rules.specs.Pools.{by}
 use Rattle.rules.specs.Bank.{Places, at}
 use Rattle.rules.specs.Publisher.{Connection, Pub, Side, slot_at, tagged, tag_slot, begun, is_stale, Sweeps, swept, visited}
 use Rattle.rules.specs.Books.{owns, Wired, InOrder, beside}
+use Rattle.rules.proofs.Lists.{set_each}
 use Rattle.rules.proofs.Lends.{goes}
 use Rattle.rules.proofs.Removes.{removing}
 
@@ -47,13 +49,7 @@ tagging loans hand g i k =
     let b = k.books in
     let y = option_map (tagged p.cycle) (slot_at p i) in
     let same : (j : ℕ) → places (get_or (set p.slots i y) j None) ≡ places (slot_at p j)
-    = λ j. ⊎_elim
-    (λ here. ⊎_elim
-    (λ lt. ap (λ l. places (get_or (set p.slots i y) l None)) here ∙ (ap places (get_or-set_same p.slots i y None lt) ∙ (tag_places p.cycle (slot_at p i) ∙ ap (λ l. places (slot_at p l)) (sym here))))
-    (λ le. ap (λ xs. places (get_or xs j None)) (set_past p.slots i y le))
-    (cases_lt i (length p.slots)))
-    (λ other. ap places (get_or-set_other p.slots i j y None other))
-    (cases_eq j i) in
+    = set_each (λ c d. places d ≡ places c) (λ c. refl) p.slots i y None (tag_places p.cycle (slot_at p i)) in
     record {
       books = record { ledger = b.ledger; balance = b.balance; free = b.free; alone = b.alone; once = b.once };
       wired = retagged p (tag_slot p i) g.links refl (length-set p.slots i y) same k.wired;
@@ -71,14 +67,9 @@ beginning loans hand g n k =
     }))
     (λ no. subst to (sym (cond-false (ltb p.cycle (2 ^ 64 - 1)) _ _ no)) (record {
       books = record { ledger = b.ledger; balance = b.balance; free = b.free; alone = b.alone; once = b.once };
-      wired = retagged p _ g.links refl (length-map p.slots (option_map (tagged 0))) (mapped_places p.slots) k.wired;
+      wired = retagged p _ g.links refl (length-map p.slots (option_map (tagged 0))) (λ j. ap places (get_or-map (option_map (tagged 0)) p.slots j None) ∙ tag_places 0 (slot_at p j)) k.wired;
     }))
     (cases_Bool (ltb p.cycle (2 ^ 64 - 1)))
-  where
-    mapped_places : (xs : List (Option Connection)) (j : ℕ) → places (get_or (map (option_map (tagged 0)) xs) j None) ≡ places (get_or xs j None)
-    mapped_places [] j = refl
-    mapped_places (x ∷ xs) zero = tag_places 0 x
-    mapped_places (x ∷ xs) (suc j) = mapped_places xs j
 
 -- SWEEPING
 

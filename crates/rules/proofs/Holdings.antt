@@ -1,5 +1,5 @@
 -- The calls of a receiver end leave what a link holds for its sender.
-use Rattle.std.proofs.Common.{◌≡◌, ℕ, zero, suc, ◌+◌, Bool, true, false, cond, ◌&&◌, ◌||◌, List, [], ◌∷◌, ◌++◌, set, is_some, Some, None, fold, Option, sym, refl, ap, ◌∙◌, subst, arith}
+use Rattle.std.proofs.Common.{◌≡◌, ℕ, ◌+◌, Bool, true, false, cond, ◌&&◌, ◌||◌, List, [], ◌∷◌, ◌++◌, set, is_some, Some, None, fold, Option, sym, refl, ap, ◌∙◌, subst, arith}
 use Rattle.std.specs.Option.{option_map, option_to_list}
 use Rattle.container.specs.Queue.{oldest, later, without}
 use Rattle.elementary.specs.Ids.{same_chunk}
@@ -11,6 +11,7 @@ use Rattle.rules.specs.Pools.{by}
 use Rattle.rules.specs.Links.{Link, attached, next_standing, stepped, fresh, listed, times, with_lists, can_borrow, receive_after, release_fault, release_after}
 use Rattle.rules.specs.Bank.{Places, at, changed, received, given_back, create_fault, MayTake, created, kept, detached, Move, receive_at, release_at, moved, Turned}
 use Rattle.rules.specs.Holdings.{Keeps, HeldSame, Stirred}
+use Rattle.rules.proofs.Lists.{set_each}
 use Rattle.rules.proofs.Offsets.{times_append, times_push, times_split, without_times}
 use Rattle.rules.proofs.Banks.{listed_times, releasable}
 use Rattle.rules.proofs.Safe.{safe_moved, safe_detached, safe_created}
@@ -25,15 +26,8 @@ held_trans : {ps qs rs : Places} → HeldSame ps qs → HeldSame qs rs → HeldS
 held_trans a b = record { keeps = λ i. record { owner = (b.keeps i).owner ∙ (a.keeps i).owner; holds = λ o. (b.keeps i).holds o ∙ (a.keeps i).holds o } }
 
 -- one place set
-set_keeps : (ps : Places) (i : ℕ) (x : Option Link) → Keeps (at ps i) x → (j : ℕ) → Keeps (at ps j) (at (set ps i x) j)
-set_keeps [] i x k j = keeps_refl None
-set_keeps (p ∷ ps) zero x k zero = k
-set_keeps (p ∷ ps) zero x k (suc j) = keeps_refl (at ps j)
-set_keeps (p ∷ ps) (suc i) x k zero = keeps_refl p
-set_keeps (p ∷ ps) (suc i) x k (suc j) = set_keeps ps i x k j
-
 held_set : (ps : Places) (i : ℕ) (x : Option Link) → Keeps (at ps i) x → HeldSame ps (set ps i x)
-held_set ps i x k = record { keeps = set_keeps ps i x k }
+held_set ps i x k = record { keeps = set_each Keeps keeps_refl ps i x None k }
 
 held_changed : (ps : Places) (i : ℕ) (f : Link → Link) → ((l : Link) → Keeps (Some l) (Some (f l))) → HeldSame ps (changed ps i f)
 held_changed ps i f k = held_set ps i (option_map f (at ps i)) (go (at ps i))

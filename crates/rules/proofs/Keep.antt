@@ -1,7 +1,7 @@
 -- The moves of which every call is made keep a publisher's books.
 use Rattle.std.proofs.Common.{◌≡◌, ℕ, ◌+◌, ◌-◌, ◌<◌, ◌≤◌, Bool, true, false, cond, eqb, ltb, List, ◌∷◌, length, get_or, set, sym, refl, ap, ◌∙◌, subst, ⊎_elim, arith}
 use Rattle.std.proofs.lemmas.List.{get_or-set_other, length-set}
-use Rattle.std.proofs.lemmas.Bool.{cases_Bool, cases_eq, cases_lt, cond-true, cond-false, lt-ltb, le-ltb, eq-eqb, ne_eqb}
+use Rattle.std.proofs.lemmas.Bool.{cases_Bool, cases_eq, cond-true, cond-false, lt-ltb, le-ltb, eq-eqb, ne_eqb}
 use Rattle.elementary.specs.Ids.{segment}
 use Rattle.elementary.specs.declared.pointer_offset.PointerOffset.{PointerOffset}
 use Rattle.rules.specs.Memory.{Mem, Segment, segment_at, home, bucket, is_chunk, taken_at, marked, remarked, with_segments, freed}
@@ -198,11 +198,8 @@ release c o l free some =
     (sym (cond-true _ (freed c.mem o) c.mem (eq-eqb (count_at gs cs o) 1 last) ∙ ap (with_segments c.mem) (cond-true _ _ _ (free o ∙ lt-ltb _ _ some))))
     (released_last c o l free last))
     (λ more. subst (λ m. Released c (with_mem m) o) (sym (cond-false _ (freed c.mem o) c.mem (ne_eqb (count_at gs cs o) 1 more)))
-    (released_more c o l free (more_than_one (count_at gs cs o) some more)))
+    (released_more c o l free (omega (arith, some, more))))
     (cases_eq (count_at gs cs o) 1)
-  where
-    more_than_one : (n : ℕ) → 0 < n → (n ≡ 1 → ⊥) → 1 < n
-    more_than_one n pos ne = ⊎_elim (λ gt. gt) (λ le. absurd (ne (omega (arith, pos, le)))) (cases_lt 1 n)
 
 pub letting_go : (loans hand : List PointerOffset) (p : Pub) (ps : Places) (o : PointerOffset) → Books loans (o ∷ hand) p ps → Books loans hand (let_go p o) ps
 letting_go loans hand p ps o k =

@@ -1,7 +1,7 @@
 -- A loan keeps a publisher's books.
-use Rattle.std.proofs.Common.{◌≡◌, ℕ, zero, suc, ◌+◌, ◌/◌, ◌%◌, ◌<◌, ◌≤◌, Bool, true, false, cond, not, ◌&&◌, eqb, ltb, List, [], ◌∷◌, ◌++◌, length, get_or, replicate, Ok, Err, Result, sym, refl, ap, ◌∙◌, subst, inl, inr, ⊎_elim, arith}
+use Rattle.std.proofs.Common.{◌≡◌, ℕ, zero, suc, ◌+◌, ◌/◌, ◌%◌, ◌<◌, ◌≤◌, Bool, true, false, cond, ◌&&◌, eqb, ltb, List, [], ◌∷◌, ◌++◌, length, get_or, replicate, Ok, Err, Result, sym, refl, ap, ◌∙◌, subst, inl, inr, ⊎_elim, arith}
+use Rattle.std.proofs.lemmas.Bool.{not-true, and_right, cond_both, cases_eq, cases_lt, cond-true, cond-false, lt-ltb, le-ltb, ltb-false, eq-eqb, ne_eqb, and_parts}
 use Rattle.std.proofs.lemmas.List.{get_or_past, get_or_push, get_or_append_left, length_push, length-set, length-replicate}
-use Rattle.std.proofs.lemmas.Bool.{cases_eq, cases_lt, cond-true, cond-false, lt-ltb, le-ltb, ltb-false, eq-eqb, ne_eqb, and_parts, false≢true}
 use Rattle.elementary.specs.Ids.{distance, segment}
 use Rattle.elementary.specs.declared.pointer_offset.PointerOffset.{PointerOffset}
 use Rattle.elementary.specs.declared.error.AllocationError.{AllocationError}
@@ -26,14 +26,6 @@ with_mem p m = with_chunks p (record { mem = m; counts = p.chunks.counts })
 abbrev took : Pub → Mem → PointerOffset → Pub
 took p n o = with_chunks p (borrowed (record { mem = n; counts = p.chunks.counts }) o.value)
 
-not_true : (b : Bool) → not b ≡ true → b ≡ false
-not_true false e = refl
-not_true true e = absurd (false≢true e)
-
-and_false : (a b : Bool) → b ≡ false → (a && b) ≡ false
-and_false false b e = refl
-and_false true b e = e
-
 taking_marked : (loans hand : List PointerOffset) (p : Pub) (ps : Places) (o : PointerOffset) → free_at p.chunks.mem.segments o.value ≡ true
     → Books loans hand p ps → Books (loans ++ o ∷ []) hand (took p (with_segments p.chunks.mem (marked p.chunks.mem.segments o.value true)) o) ps
 taking_marked loans hand p ps o free k =
@@ -43,7 +35,7 @@ taking_marked loans hand p ps o free k =
     let hs = marked gs v true in
     let d : Chunks = record { mem = with_segments p.chunks.mem hs; counts = cs } in
     let a = and_parts (is_chunk gs v) _ free in
-    let untaken : taken_at gs v ≡ false = and_false _ _ (not_true _ a.1) in
+    let untaken : taken_at gs v ≡ false = and_right _ _ (not-true _ a.1) in
     let zero : count_at gs cs v ≤ 0 = ltb-false 0 (count_at gs cs v) (sym (k.free v) ∙ untaken) in
     let there : is_chunk hs v ≡ true = mark_chunk gs v true v ∙ a.0 in
     let ledger : Ledger d = ledger_marked p.chunks v true k.ledger in
@@ -83,18 +75,14 @@ added_other : (gs : List Segment) (b : Segment) (s : ℕ) → (s ≡ length gs �
 added_other gs b s ne =
     ⊎_elim
     (λ lt. get_or_append_left gs (b ∷ []) no_segment s lt)
-    (λ le. let gt : length gs < s = past s (length gs) le ne in
-    get_or_past (gs ++ b ∷ []) s no_segment (omega (arith, gt, length_push gs b)) ∙ sym (get_or_past gs s no_segment le))
+    (λ le. get_or_past (gs ++ b ∷ []) s no_segment (omega (arith, ne, le, length_push gs b)) ∙ sym (get_or_past gs s no_segment le))
     (cases_lt s (length gs))
-  where
-    past : (i n : ℕ) → n ≤ i → (i ≡ n → ⊥) → n < i
-    past i n le ne = ⊎_elim (λ lt. lt) (λ ge. absurd (ne (omega (arith, le, ge)))) (cases_lt n i)
 
 -- an offset of a segment that is not there names nothing
 nothing_named : (gs : List Segment) (x : ℕ) → segment x ≡ length gs → is_chunk gs x ≡ false
 nothing_named gs x e =
     let none : length (home gs x).taken ≡ 0 = ap (λ (g : Segment). length g.taken) (get_or_past gs (segment x) no_segment (omega (arith, e))) in
-    and_false _ _ (le-ltb (bucket gs x) (length (home gs x).taken) (omega (arith, none)))
+    and_right _ _ (le-ltb (bucket gs x) (length (home gs x).taken) (omega (arith, none)))
 
 added_count : (gs : List Segment) (b : Segment) (cs : Counts) (x : ℕ)
     → ((s i : ℕ) → length (segment_at gs s).taken ≤ i → get_or (counts_of cs s) i 0 ≡ 0) → count_at (gs ++ b ∷ []) cs x ≡ count_at gs cs x
@@ -103,20 +91,16 @@ added_count gs b cs x unused =
     (λ same. let hs = gs ++ b ∷ [] in
     let none : length (segment_at gs (segment x)).taken ≡ 0 = ap (λ (g : Segment). length g.taken) (get_or_past gs (segment x) no_segment (omega (arith, same))) in
     let z : get_or (counts_of cs (segment x)) (bucket hs x) 0 ≡ 0 = unused (segment x) (bucket hs x) (omega (arith, none)) in
-    nothing (is_chunk hs x) _ z ∙ sym (cond-false _ _ _ (nothing_named gs x same)))
+    cond_both (is_chunk hs x) _ 0 (λ n. n ≡ 0) (λ _. z) (λ _. refl) ∙ sym (cond-false _ _ _ (nothing_named gs x same)))
     (λ other. ap (λ (g : Segment). cond (eqb (distance x % g.size) 0 && ltb (distance x / g.size) (length g.taken)) (get_or (counts_of cs (segment x)) (distance x / g.size) 0) 0)
     (added_other gs b (segment x) other))
     (cases_eq (segment x) (length gs))
-  where
-    nothing : (b : Bool) (n : ℕ) → n ≡ 0 → cond b n 0 ≡ 0
-    nothing true n e = e
-    nothing false n e = refl
 
 added_taken : (gs : List Segment) (start size count x : ℕ) → taken_at (gs ++ blank start size count ∷ []) x ≡ taken_at gs x
 added_taken gs start size count x =
     ⊎_elim
     (λ same. let hs = gs ++ blank start size count ∷ [] in
-    and_false (is_chunk hs x) _ (ap (λ (g : Segment). get_or g.taken (bucket hs x) false) (added_same gs (blank start size count) (segment x) same) ∙ all_false count (bucket hs x))
+    and_right (is_chunk hs x) _ (ap (λ (g : Segment). get_or g.taken (bucket hs x) false) (added_same gs (blank start size count) (segment x) same) ∙ all_false count (bucket hs x))
     ∙ sym (ap (λ t. t && get_or (home gs x).taken (bucket gs x) false) (nothing_named gs x same)))
     (λ other. ap (λ (g : Segment). (eqb (distance x % g.size) 0 && ltb (distance x / g.size) (length g.taken)) && get_or g.taken (distance x / g.size) false)
     (added_other gs (blank start size count) (segment x) other))

@@ -1,22 +1,16 @@
 -- What a mark at one bucket changes, and what it leaves.
 use Rattle.std.proofs.Common.{◌≡◌, ℕ, ◌/◌, ◌%◌, ◌<◌, Bool, true, false, ◌&&◌, eqb, ltb, List, length, get_or, set, sym, refl, ap, ◌∙◌, ⊎_elim}
-use Rattle.std.proofs.lemmas.List.{get_or-set_same, get_or-set_other, set_past, length-set}
-use Rattle.std.proofs.lemmas.Bool.{cases_eq, cases_lt, cases_Bool, and_left}
+use Rattle.std.proofs.lemmas.List.{get_or-set_same, get_or-set_other, length-set}
+use Rattle.std.proofs.lemmas.Bool.{cases_eq, cases_Bool, and_left}
 use Rattle.elementary.specs.Ids.{distance, segment}
 use Rattle.rules.specs.Memory.{Segment, segment_at, no_segment, home, bucket, is_chunk, taken_at, remarked, marked}
+use Rattle.rules.proofs.Lists.{set_each}
 use Rattle.rules.proofs.Chunks.{chunk_bucket, chunk_there, same_bucket}
 
 -- what no mark changes of a segment, it changes of none
 pub mark_keeps : {R : Type 0} (f : Segment → R) → ((g : Segment) (b : ℕ) (t : Bool) → f (remarked g b t) ≡ f g)
     → (gs : List Segment) (o : ℕ) (t : Bool) (k : ℕ) → f (segment_at (marked gs o t) k) ≡ f (segment_at gs k)
-mark_keeps f e gs o t k =
-    ⊎_elim
-    (λ same. ⊎_elim
-    (λ lt. rw same (ap f (get_or-set_same gs (segment o) _ no_segment lt) ∙ e (home gs o) (bucket gs o) t))
-    (λ past. ap (λ hs. f (segment_at hs k)) (set_past gs (segment o) _ past))
-    (cases_lt (segment o) (length gs)))
-    (λ other. ap f (get_or-set_other gs (segment o) k _ no_segment other))
-    (cases_eq k (segment o))
+mark_keeps f e gs o t = set_each (λ g h. f h ≡ f g) (λ g. refl) gs (segment o) _ no_segment (e (home gs o) (bucket gs o) t)
 
 pub mark_size : (gs : List Segment) (o : ℕ) (t : Bool) (k : ℕ) → (segment_at (marked gs o t) k).size ≡ (segment_at gs k).size
 mark_size = mark_keeps (λ g. g.size) (λ g b t. refl)

@@ -1,8 +1,9 @@
 -- Sending to one link keeps a publisher in order.
-use Rattle.std.proofs.Common.{◌≡◌, ℕ, zero, suc, ◌+◌, ◌<◌, ◌≤◌, Bool, true, false, cond, ◌||◌, List, [], ◌∷◌, ◌++◌, length, get_or, set, is_some, is_ok, Some, None, Ok, Err, sum_by, Option, Result, sym, refl, ap, ◌∙◌, ⊎_elim, arith}
+use Rattle.std.proofs.Common.{◌≡◌, ℕ, zero, suc, ◌+◌, ◌<◌, ◌≤◌, Bool, true, false, cond, ◌||◌, List, [], ◌∷◌, ◌++◌, length, get_or, set, is_ok, Some, None, Ok, Err, sum_by, Option, Result, sym, refl, ap, ◌∙◌, ⊎_elim, arith}
 use Rattle.std.specs.Option.{option_to_list, option_map}
+use Rattle.std.proofs.lemmas.Option.{none-some}
+use Rattle.std.proofs.lemmas.List.Sums.{sum_by-le-sum_by, count_by-le-length, sum_by-cons, sum_by-set}
 use Rattle.std.proofs.lemmas.List.{get_or-set_same, get_or-set_other, get_or_past, set_past}
-use Rattle.std.proofs.lemmas.List.Sums.{sum_by-cons, sum_by-set}
 use Rattle.std.proofs.lemmas.Bool.{cases_Bool, cases_eq, cases_lt, cond_both, cond-true, cond-false, or_parts, false≢true}
 use Rattle.container.specs.Queue.{roomy, later, oldest, overflowed, evicted, has}
 use Rattle.elementary.specs.Ids.{same_chunk}
@@ -19,14 +20,14 @@ use Rattle.rules.specs.Publisher.{Connection, Pub, Side, slot_at, hold, let_go_i
 use Rattle.rules.specs.Books.{mine, held_here, held_by, count_of, Books, owns, Wired, InOrder, CallsKeepOrder}
 use Rattle.rules.proofs.Offsets.{one, times_cons, times_append, times_push, times_split, absent_times}
 use Rattle.rules.proofs.Banks.{listed_times, accepted}
-use Rattle.rules.proofs.Keep.{holding, moving}
 use Rattle.rules.proofs.Safe.{safe_sent}
+use Rattle.rules.proofs.Keep.{holding, moving}
 use Rattle.rules.proofs.Views.{own_changed, unmoved_changed}
 use Rattle.rules.proofs.Passages.{Passage, passage_trans, passage_hold, evict, passage_evict, passage_links, fits_unmoved}
 use Rattle.rules.proofs.Reclaims.{held_set, owns_changed, reclaiming, filling, returning}
 use Rattle.rules.proofs.Lends.{loaning}
-use Rattle.rules.proofs.Cycles.{beginning, tagging, sweeping}
 use Rattle.rules.proofs.Removes.{rewired, place_of, slot_there, removing, closing}
+use Rattle.rules.proofs.Cycles.{beginning, tagging, sweeping}
 
 -- ONE LINK
 
@@ -124,7 +125,7 @@ one_post loans hand g i o e own takes some few lent k =
       order = record {
         books = evict loans hand qs e (hold p o) out;
         wired = rewired p (let_go_if (hold p o) e) qs (if_id (hold p o) e) (if_slots (hold p o) e)
-            (record { own = λ j c s. owns_changed after (λ _ _. refl) p.id ps i c.place own ∙ w.own j c s; apart = w.apart; cover = λ j e'. w.cover j (sym (owns_changed after (λ _ _. refl) p.id ps i j own) ∙ e'); few = w.few });
+            (record { own = λ j c s. owns_changed after (λ _ _. refl) p.id ps i c.place ∙ w.own j c s; apart = w.apart; cover = λ j e'. w.cover j (sym (owns_changed after (λ _ _. refl) p.id ps i j) ∙ e'); few = w.few });
       };
       passage = passage_trans (passage_hold loans hand ps o p k.books some few)
           (passage_trans
@@ -134,9 +135,6 @@ one_post loans hand g i o e own takes some few lent k =
     }
 
 -- HOW MANY MAY HOLD ONE CHUNK
-
-no_slot : (c : Connection) → ◌≡◌ {A = Option Connection} None (Some c) → ⊥
-no_slot c e = false≢true (ap is_some e)
 
 -- how often a slot's link holds a chunk
 abbrev slot_holds : PortId → ℕ → Places → Option Connection → ℕ
@@ -163,9 +161,7 @@ none_there ps i =
     ⊎_elim (λ lt. get_or-set_same ps i None None lt) (λ le. ap (λ qs. at qs i) (set_past ps i None le) ∙ get_or_past ps i None le) (cases_lt i (length ps))
 
 emptied_less : (id : PortId) (o : ℕ) (ps : Places) (i : ℕ) (xs : List (Option Connection)) → sum_by (slot_holds id o (set ps i None)) xs ≤ sum_by (slot_holds id o ps) xs
-emptied_less id o ps i [] = omega arith
-emptied_less id o ps i (x ∷ xs) =
-    omega (arith, sum_by-cons (slot_holds id o (set ps i None)) x xs, sum_by-cons (slot_holds id o ps) x xs, emptied_less id o ps i xs, here x)
+emptied_less id o ps i xs = sum_by-le-sum_by (slot_holds id o (set ps i None)) (slot_holds id o ps) xs here
   where
     here : (y : Option Connection) → slot_holds id o (set ps i None) y ≤ slot_holds id o ps y
     here None = omega arith
@@ -179,12 +175,12 @@ emptied_less id o ps i (x ∷ xs) =
 slots_hold : (id : PortId) (o : ℕ) (xs : List (Option Connection)) (ps : Places)
     → ((j : ℕ) → owns id (at ps j) ≡ true → (i : ℕ) × ((c : Connection) × (get_or xs i None ≡ Some c) × (c.place ≡ j)))
     → held_by id ps o ≤ sum_by (slot_holds id o ps) xs
-slots_hold id o [] ps cover = nothing_owned id o ps (λ j e. let f = cover j e in no_slot f.1.0 f.1.1)
+slots_hold id o [] ps cover = nothing_owned id o ps (λ j e. let f = cover j e in none-some f.1.0 f.1.1)
 slots_hold id o (None ∷ xs) ps cover =
     omega (arith, sum_by-cons (slot_holds id o ps) None xs, slots_hold id o xs ps (λ j e. let f = cover j e in later_slot j f.0 f.1.0 f.1.1 f.1.2))
   where
     later_slot : (j i : ℕ) (c : Connection) → get_or (None ∷ xs) i None ≡ Some c → c.place ≡ j → (i : ℕ) × ((c : Connection) × (get_or xs i None ≡ Some c) × (c.place ≡ j))
-    later_slot j zero c e p = absurd (no_slot c e)
+    later_slot j zero c e p = absurd (none-some c e)
     later_slot j (suc i) c e p = (i, (c, e, p))
 slots_hold id o (Some d ∷ xs) ps cover =
     omega (
@@ -207,8 +203,7 @@ slots_hold id o (Some d ∷ xs) ps cover =
 
 -- at most one each
 at_most_all : {X : Type 0} (f : X → ℕ) (xs : List X) → ((x : X) → f x ≤ 1) → sum_by f xs ≤ length xs
-at_most_all f [] most = omega arith
-at_most_all f (x ∷ xs) most = omega (arith, sum_by-cons f x xs, most x, at_most_all f xs most)
+at_most_all f xs most = omega (arith, sum_by-le-sum_by f (λ _. 1) xs most, count_by-le-length (λ _. true) xs)
 
 -- and none in one of them
 one_without : {X : Type 0} (f : X → ℕ) (d : X) (xs : List X) (k : ℕ) → ((x : X) → f x ≤ 1) → k < length xs → f (get_or xs k d) ≡ 0 → sum_by f xs + 1 ≤ length xs

@@ -1,9 +1,8 @@
 -- Reclaiming, filling and returning keep a publisher's books.
 use Rattle.std.proofs.Common.{◌≡◌, ℕ, suc, ◌+◌, ◌<◌, true, cond, List, [], ◌∷◌, ◌++◌, length, get_or, set, Some, None, fold, Option, sym, refl, ap, ◌∙◌, subst, ⊎_elim, arith}
 use Rattle.std.specs.Option.{option_map}
-use Rattle.std.proofs.lemmas.List.{get_or-set_same, get_or-set_other, get_or_past}
 use Rattle.std.proofs.lemmas.List.Sums.{sum_by-set}
-use Rattle.std.proofs.lemmas.Bool.{cases_Bool, cases_eq, cases_lt, cond-true, cond-false, and_parts, false≢true}
+use Rattle.std.proofs.lemmas.Bool.{cases_Bool, cond-true, cond-false, and_parts, false≢true}
 use Rattle.container.specs.Queue.{without}
 use Rattle.elementary.specs.Ids.{same_chunk}
 use Rattle.elementary.specs.declared.port_id.PortId.{PortId}
@@ -13,17 +12,18 @@ use Rattle.rules.specs.Links.{Link, attached, listed, times}
 use Rattle.rules.specs.Bank.{Places, at, changed}
 use Rattle.rules.specs.Publisher.{Connection, Pub, Side, slot_at, with_loans, let_go, let_go_all, returned_at, cleared, emptied, reclaimed_all, is_live, unloaned, fill_after, return_after}
 use Rattle.rules.specs.Books.{mine, held_here, held_by, Books, owns, InOrder, beside}
+use Rattle.rules.proofs.Lists.{within, set_each}
 use Rattle.rules.proofs.Offsets.{one, times_cons, times_append, without_times}
 use Rattle.rules.proofs.Banks.{listed_times}
-use Rattle.rules.proofs.Keep.{letting_go, moving}
 use Rattle.rules.proofs.Safe.{safe_cleared}
+use Rattle.rules.proofs.Keep.{letting_go, moving}
 use Rattle.rules.proofs.Views.{own_changed, unmoved_changed}
 use Rattle.rules.proofs.Passages.{Passage, passage_refl, passage_trans, all_go, passage_all, passage_links, fits_unmoved}
 
 -- ONE PLACE
 
 pub owned_there : (id : PortId) (ps : Places) (i : ℕ) → owns id (at ps i) ≡ true → i < length ps
-owned_there id ps i e = ⊎_elim (λ lt. lt) (λ le. absurd (false≢true (sym (ap (owns id) (get_or_past ps i None le)) ∙ e))) (cases_lt i (length ps))
+owned_there id ps i e = within ps i None (λ none. false≢true (sym (ap (owns id) none) ∙ e))
 
 -- another link at one place of the bank
 pub held_set : (id : PortId) (ps : Places) (i : ℕ) (x : Option Link) (o : ℕ) → owns id (at ps i) ≡ true
@@ -31,12 +31,8 @@ pub held_set : (id : PortId) (ps : Places) (i : ℕ) (x : Option Link) (o : ℕ)
 held_set id ps i x o e = sum_by-set (held_here id o) ps i x None (owned_there id ps i e)
 
 pub owns_changed : (f : Link → Link) → ((id : PortId) (l : Link) → mine id (f l) ≡ mine id l) → (id : PortId) (ps : Places) (i j : ℕ)
-    → owns id (at ps i) ≡ true → owns id (at (changed ps i f) j) ≡ owns id (at ps j)
-owns_changed f keep id ps i j e =
-    ⊎_elim
-    (λ same. rw same (ap (owns id) (get_or-set_same ps i (option_map f (at ps i)) None (owned_there id ps i e)) ∙ through (at ps i)))
-    (λ other. ap (owns id) (get_or-set_other ps i j (option_map f (at ps i)) None other))
-    (cases_eq j i)
+    → owns id (at (changed ps i f) j) ≡ owns id (at ps j)
+owns_changed f keep id ps i = set_each (λ x y. owns id y ≡ owns id x) (λ x. refl) ps i _ None (through (at ps i))
   where
     through : (x : Option Link) → owns id (option_map f x) ≡ owns id x
     through None = refl
@@ -94,7 +90,7 @@ emptied_kept loans hand g c e k =
     record {
       books = all_go loans hand qs os p out;
       slots = all_slots os p;
-      owned = λ j. owns_changed cleared (λ _ _. refl) p.id ps i j e;
+      owned = owns_changed cleared (λ _ _. refl) p.id ps i;
       passage = passage_trans
           (passage_links p ps qs (safe_cleared ps i) (fits_unmoved p ps qs (λ j. own_changed cleared (λ _ _. refl) p.id ps i j)) (λ a ne. unmoved_changed a p.id ps i cleared (λ _. refl) ne e))
           (passage_all loans hand qs os p out);

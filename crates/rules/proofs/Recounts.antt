@@ -1,19 +1,16 @@
 -- What a change of one count does to all.
 use Rattle.std.proofs.Common.{◌≡◌, ℕ, ◌<◌, Bool, true, cond, List, [], length, get_or, set, sym, ap, ◌∙◌, ⊎_elim, arith}
-use Rattle.std.proofs.lemmas.List.{get_or-set_same, get_or-set_other, get_or_past, set_past}
+use Rattle.std.proofs.lemmas.List.{get_or-set_same, get_or-set_other, set_past}
 use Rattle.std.proofs.lemmas.Bool.{cases_Bool, cases_eq, cases_lt, cond-true, cond-false}
 use Rattle.elementary.specs.Ids.{segment}
 use Rattle.rules.specs.Memory.{Segment, bucket, is_chunk, marked}
 use Rattle.rules.specs.Counts.{Counts, counts_of, count_at, recounted}
+use Rattle.rules.proofs.Lists.{within}
 use Rattle.rules.proofs.Chunks.{same_bucket}
 use Rattle.rules.proofs.Marks.{mark_chunk, mark_bucket}
 
--- a row that has a place for b is there
-row_there : (cs : Counts) (s b : ℕ) → b < length (counts_of cs s) → s < length cs
-row_there cs s b lt = ⊎_elim (λ h. h) (λ h. absurd (omega (arith, ap length (get_or_past cs s [] h)))) (cases_lt s (length cs))
-
 pub row_same : (cs : Counts) (s b n : ℕ) → b < length (counts_of cs s) → counts_of (set cs s (set (counts_of cs s) b n)) s ≡ set (counts_of cs s) b n
-row_same cs s b n lt = get_or-set_same cs s _ [] (row_there cs s b lt)
+row_same cs s b n lt = get_or-set_same cs s _ [] (within cs s [] (λ none. omega (arith, ap length none)))
 
 pub row_other : (cs : Counts) (s k : ℕ) (ns : List ℕ) → (k ≡ s → ⊥) → counts_of (set cs s ns) k ≡ counts_of cs k
 row_other cs s k ns ne = get_or-set_other cs s k ns [] ne

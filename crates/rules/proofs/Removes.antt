@@ -1,9 +1,10 @@
 -- Removing links and closing keep a publisher in order.
-use Rattle.std.proofs.Common.{◌≡◌, ℕ, ◌+◌, ◌<◌, Bool, true, false, cond, ◌&&◌, eqb, List, [], ◌++◌, length, get_or, set, is_some, Some, None, Option, sym, refl, ap, ◌∙◌, subst, ⊎_elim, arith, MatchOption}
+use Rattle.std.proofs.Common.{◌≡◌, ℕ, ◌+◌, ◌<◌, true, false, cond, eqb, List, [], ◌++◌, length, get_or, set, is_some, Some, None, Option, sym, refl, ap, ◌∙◌, subst, ⊎_elim, arith, MatchOption}
 use Rattle.std.specs.List.Sorted.{IsPermutation}
-use Rattle.std.proofs.lemmas.List.{get_or-set_same, get_or-set_other, get_or_past, length-set}
+use Rattle.std.proofs.lemmas.Bool.{and_left, cases_Bool, cases_eq, cond-true, cond-false, and_parts, false≢true}
+use Rattle.std.proofs.lemmas.Option.{none-some}
+use Rattle.std.proofs.lemmas.List.{get_or-set_same, get_or-set_other, length-set}
 use Rattle.std.proofs.lemmas.List.Sorted.{sum_by-IsPermutation}
-use Rattle.std.proofs.lemmas.Bool.{cases_Bool, cases_eq, cases_lt, cond-true, cond-false, and_parts, false≢true}
 use Rattle.elementary.specs.declared.port_id.PortId.{PortId}
 use Rattle.elementary.specs.declared.pointer_offset.PointerOffset.{PointerOffset}
 use Rattle.elementary.specs.declared.link.Standing.{Standing}
@@ -16,12 +17,13 @@ use Rattle.rules.specs.Links.{Link, attached, next_standing, stepped, alive, lis
 use Rattle.rules.specs.Bank.{Places, at, kept, detached, held_at}
 use Rattle.rules.specs.Publisher.{Connection, Pub, Side, slot_at, with_slots, let_go_all, Removes, Empties, none, one, shut, Closes}
 use Rattle.rules.specs.Books.{mine, held_here, held_by, Books, owns, Wired, InOrder}
+use Rattle.rules.proofs.Lists.{within, set_cases}
 use Rattle.rules.proofs.Offsets.{times_append}
-use Rattle.rules.proofs.Keep.{moving}
-use Rattle.rules.proofs.Reclaims.{owned_there, held_set, all_id, all_slots, all_loans}
 use Rattle.rules.proofs.Safe.{safe_detached}
+use Rattle.rules.proofs.Keep.{moving}
 use Rattle.rules.proofs.Views.{own_details, unmoved_refl, unmoved_set, none_held, foreign, not_owned_by_other}
 use Rattle.rules.proofs.Passages.{Passage, Fits, shape_refl, passage_refl, passage_trans, all_go, passage_all, passage_links}
+use Rattle.rules.proofs.Reclaims.{owned_there, held_set, all_id, all_slots, all_loans}
 use Rattle.rules.proofs.Lends.{goes}
 
 -- ONE LINK
@@ -31,14 +33,10 @@ detached_end NeverAttached = refl
 detached_end Attached = refl
 detached_end Gone = refl
 
-first_false : (a b : Bool) → a ≡ false → (a && b) ≡ false
-first_false false b f = refl
-first_false true b f = absurd (false≢true (sym f))
-
 not_owned : (id : PortId) (l : Link) → attached l.sender_end ≡ false → owns id (kept l) ≡ false
 not_owned id l e =
     ⊎_elim
-    (λ yes. ap (owns id) (cond-true _ (Some l) None yes) ∙ first_false _ _ e)
+    (λ yes. ap (owns id) (cond-true _ (Some l) None yes) ∙ and_left _ _ e)
     (λ no. ap (owns id) (cond-false _ (Some l) None no))
     (cases_Bool (alive l))
 
@@ -46,7 +44,7 @@ not_owned id l e =
 holds_nothing : (id : PortId) (o : ℕ) (l : Link) → attached l.sender_end ≡ false → held_here id o (kept l) ≡ 0
 holds_nothing id o l e =
     ⊎_elim
-    (λ yes. ap (held_here id o) (cond-true _ (Some l) None yes) ∙ cond-false (mine id l) _ _ (first_false _ _ e))
+    (λ yes. ap (held_here id o) (cond-true _ (Some l) None yes) ∙ cond-false (mine id l) _ _ (and_left _ _ e))
     (λ no. ap (held_here id o) (cond-false _ (Some l) None no))
     (cases_Bool (alive l))
 
@@ -65,14 +63,13 @@ here_removed id ps i o = through (at ps i)
 -- ONE SLOT
 
 pub slot_there : (xs : List (Option Connection)) (i : ℕ) (c : Connection) → get_or xs i None ≡ Some c → i < length xs
-slot_there xs i c e = ⊎_elim (λ lt. lt) (λ le. absurd (false≢true (ap is_some (sym (get_or_past xs i None le) ∙ e)))) (cases_lt i (length xs))
+slot_there xs i c e = within xs i None (λ none. none-some c (sym none ∙ e))
 
 -- what stands in a slot when another was emptied
 slot_back : (xs : List (Option Connection)) (i : ℕ) (c : Connection) → get_or xs i None ≡ Some c
     → (j : ℕ) (d : Connection) → get_or (set xs i None) j None ≡ Some d → (j ≡ i → ⊥) × (get_or xs j None ≡ Some d)
 slot_back xs i c there j d e =
-    let apart : j ≡ i → ⊥ = λ same. false≢true (ap is_some (sym (get_or-set_same xs i None None (slot_there xs i c there)) ∙ (ap (λ k. get_or (set xs i None) k None) (sym same) ∙ e))) in
-    (apart, sym (get_or-set_other xs i j None None apart) ∙ e)
+    ⊎_elim (λ new. absurd (none-some d (sym new.1 ∙ e))) (λ old. (old.0 (slot_there xs i c there), sym old.1 ∙ e)) (set_cases xs i None None j)
 
 -- REMOVING
 

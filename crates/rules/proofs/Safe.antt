@@ -1,7 +1,7 @@
 -- Where no sender was ever attached, nothing was ever sent: every call keeps it so.
 use Rattle.std.proofs.Common.{◌≡◌, ℕ, ◌+◌, ◌≤◌, Bool, true, false, cond, ◌&&◌, ltb, List, [], ◌∷◌, ◌++◌, length, set, is_some, is_ok, Some, None, Err, fold, Option, sym, refl, ap, ◌∙◌, subst, ⊎_elim, arith}
 use Rattle.std.specs.Option.{option_to_list}
-use Rattle.std.proofs.lemmas.Bool.{cond-true, cond-false, cond_both, false≢true}
+use Rattle.std.proofs.lemmas.Bool.{and_right, cond-true, cond-false, cond_both, false≢true}
 use Rattle.container.specs.Queue.{oldest, later, has}
 use Rattle.elementary.specs.Ids.{same_chunk}
 use Rattle.elementary.specs.declared.pointer_offset.PointerOffset.{PointerOffset}
@@ -53,13 +53,9 @@ unsent_receive l u n = let k = u n in (waits (attached l.receiver_end && can_bor
 unsent_release : (o : PointerOffset) (l : Link) → Unsent l → Unsent (release_after l o)
 unsent_release o l u n =
     let k = u n in
-    let none : (attached l.receiver_end && has same_chunk l.borrowed o) ≡ false = ap (λ x. attached l.receiver_end && has same_chunk x o) k.1 ∙ never_both (attached l.receiver_end) in
+    let none : (attached l.receiver_end && has same_chunk l.borrowed o) ≡ false = ap (λ x. attached l.receiver_end && has same_chunk x o) k.1 ∙ and_right (attached l.receiver_end) false refl in
     let fault : is_some (release_fault l o) ≡ true = ap is_some (cond-false _ (cond (ltb (length l.returned) (most_returned l)) None (Some releasing.RetrieveBufferFull)) (Some releasing.NotBorrowed) none) in
     (k.0, cond-true _ _ _ fault ∙ k.1, cond-true _ _ _ fault ∙ k.2)
-  where
-    never_both : (b : Bool) → (b && false) ≡ false
-    never_both true = refl
-    never_both false = refl
 
 -- an end that comes or goes changes no list, and no sender end becomes one that never was
 unsent_detached : (end : End) (l : Link) → Unsent l → Unsent (stepped end Detach l)

@@ -1,12 +1,13 @@
 -- Counting buckets.
 use Rattle.std.proofs.Common.{◌≡◌, ℕ, suc, ◌+◌, ◌<◌, ◌≤◌, Bool, true, false, cond, ◌&&◌, ◌||◌, eqb, ltb, leb, List, [], ◌∷◌, length, get_or, set, Some, None, sum, sym, refl, ap, ◌∙◌, ⊎_elim, arith}
-use Rattle.std.proofs.lemmas.List.{get_or_past, length-set}
+use Rattle.std.proofs.lemmas.List.{length-set}
 use Rattle.std.proofs.lemmas.List.Sums.{sum_by-cons, sum_by-set}
 use Rattle.std.proofs.lemmas.Bool.{ltb-true, cases_lt, cases_Bool, or_left, or_right, and_from, ne_eqb, true≢false, false≢true, and_parts}
 use Rattle.elementary.specs.Ids.{segment}
 use Rattle.elementary.specs.declared.error.AllocationError.TheVariants.{SizeTooLarge, AlignmentFailure, OutOfMemory}
 use Rattle.rules.specs.Memory.{Segment, segment_at, no_segment, home, bucket, is_chunk, taken_at, offset_of, remarked, marked, some_false, some_free, aligned, else_fault}
 use Rattle.rules.specs.Laws.{trues, as_large, as_large_taken, TakenAtMostCounted, OneIsFree, occurrences, TakenAtMostHeld}
+use Rattle.rules.proofs.Lists.{within}
 use Rattle.rules.proofs.Chunks.{chunk_bucket, chunk_there, named}
 use Rattle.rules.proofs.Marks.{mark_size, mark_same, mark_other}
 
@@ -95,11 +96,10 @@ nameable_mark gs o t (few, pos) =
 
 -- a bucket that is marked is there
 pub marked_within : (ts : List Bool) (b : ℕ) → get_or ts b false ≡ true → b < length ts
-marked_within ts b e = ⊎_elim (λ h. h) (λ h. absurd (false≢true (sym (get_or_past ts b false h) ∙ e))) (cases_lt b (length ts))
+marked_within ts b e = within ts b false (λ none. false≢true (sym none ∙ e))
 
 pub marked_there : (gs : List Segment) (s b : ℕ) → get_or (segment_at gs s).taken b false ≡ true → s < length gs
-marked_there gs s b e =
-    ⊎_elim (λ h. h) (λ h. absurd (false≢true (sym (ap (λ (g : Segment). get_or g.taken b false) (get_or_past gs s no_segment h)) ∙ e))) (cases_lt s (length gs))
+marked_there gs s b e = within gs s no_segment (λ none. false≢true (sym (ap (λ (g : Segment). get_or g.taken b false) none) ∙ e))
 
 -- and its offset says so
 taken_named : (gs : List Segment) (s b : ℕ) → Nameable gs → get_or (segment_at gs s).taken b false ≡ true → taken_at gs (offset_of gs s b) ≡ true

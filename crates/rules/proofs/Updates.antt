@@ -2,8 +2,8 @@
 use Rattle.std.proofs.Common.{◌≡◌, ℕ, ◌+◌, ◌-◌, ◌^◌, ◌<◌, ◌≤◌, Bool, true, false, cond, not, ◌||◌, ltb, List, [], ◌∷◌, map, length, get_or, set, Some, None, Option, sym, refl, ap, ◌∙◌, subst, arith, MatchOption}
 use Rattle.std.specs.Option.{option_map}
 use Rattle.std.specs.List.Sorted.{IsPermutation}
+use Rattle.std.proofs.lemmas.Bool.{not-false, or_parts, ltb-true}
 use Rattle.std.proofs.lemmas.List.{get_or-set_same, length-set, length-map}
-use Rattle.std.proofs.lemmas.Bool.{or_parts, ltb-true, false≢true}
 use Rattle.elementary.specs.declared.pointer_offset.PointerOffset.{PointerOffset}
 use Rattle.elementary.specs.declared.port_list.SubscriberDetails.{SubscriberDetails}
 use Rattle.elementary.specs.declared.link.End.TheVariants.{Sender}
@@ -92,11 +92,7 @@ names_slot : (n : ℕ) (e : SubscriberDetails) (es : List SubscriberDetails) →
 names_slot n e es ok =
     let a = or_parts (not (ltb e.place n) || names_place e.place es) (malformed n es) ok in
     let b = or_parts (not (ltb e.place n)) (names_place e.place es) a.0 in
-    (ltb-true _ _ (unnot (ltb e.place n) b.0), a.1)
-  where
-    unnot : (b : Bool) → not b ≡ false → b ≡ true
-    unnot true e = refl
-    unnot false e = absurd (false≢true (sym e))
+    (ltb-true _ _ (not-false (ltb e.place n) b.0), a.1)
 
 entries : (loans hand : List PointerOffset) (es : List SubscriberDetails) (g : Side) (f : Option ZeroCopyCreationError) (h : Side) → Entries g es f h
     → malformed (length g.port.slots) es ≡ false → SafeBank g.links → ((o : ℕ) → times hand o ≤ 1) → InOrder loans hand g → Joined loans hand g h

@@ -1,5 +1,5 @@
 -- What a publisher sees of the bank: its own links, and what they hold.
-use Rattle.std.proofs.Common.{◌≡◌, ℕ, zero, suc, Bool, true, false, cond, ◌&&◌, eqb, List, [], ◌∷◌, set, is_some, Some, None, sum_by, Option, sym, refl, ap, ◌∙◌, ⊎_elim, arith}
+use Rattle.std.proofs.Common.{◌≡◌, ℕ, suc, Bool, true, false, cond, ◌&&◌, eqb, List, [], ◌∷◌, set, is_some, Some, None, sum_by, Option, sym, refl, ap, ◌∙◌, ⊎_elim, arith}
 use Rattle.std.specs.Option.{option_map}
 use Rattle.std.proofs.lemmas.List.Sums.{sum_by-cons}
 use Rattle.std.proofs.lemmas.Bool.{cases_Bool, cond-true, cond-false, and_parts, and_from, eq-eqb, eqb-true, false≢true}
@@ -13,6 +13,7 @@ use Rattle.rules.specs.Bank.{Places, at, changed}
 use Rattle.rules.specs.Publisher.{Pub}
 use Rattle.rules.specs.Holdings.{owned, holding, HeldSame}
 use Rattle.rules.specs.Books.{mine, held_here, held_by, owns, Wired, InOrder}
+use Rattle.rules.proofs.Lists.{set_each}
 use Rattle.rules.proofs.Keep.{moving}
 
 -- PORT IDS
@@ -54,14 +55,7 @@ pub unmoved_trans : {id : PortId} {ps qs rs : Places} → Unmoved id ps qs → U
 unmoved_trans a b = record { alike = λ i. record { details = (b.alike i).details ∙ (a.alike i).details; holds = λ o. (b.alike i).holds o ∙ (a.alike i).holds o } }
 
 pub unmoved_set : (id : PortId) (ps : Places) (i : ℕ) (x : Option Link) → Alike id (at ps i) x → Unmoved id ps (set ps i x)
-unmoved_set id ps i x k = record { alike = go ps i k }
-  where
-    go : (qs : Places) (i : ℕ) → Alike id (at qs i) x → (j : ℕ) → Alike id (at qs j) (at (set qs i x) j)
-    go [] i k j = alike_refl id None
-    go (q ∷ qs) zero k zero = k
-    go (q ∷ qs) zero k (suc j) = alike_refl id (at qs j)
-    go (q ∷ qs) (suc i) k zero = alike_refl id q
-    go (q ∷ qs) (suc i) k (suc j) = go qs i k j
+unmoved_set id ps i x k = record { alike = set_each (Alike id) (alike_refl id) ps i x None k }
 
 -- whether a place is a publisher's own
 owned_by : (id : PortId) (x : Option Link) → owns id x ≡ is_some (own_details id x)
@@ -105,18 +99,11 @@ unmoved_changed a id ps i f same ne e = unmoved_set a ps i (option_map f (at ps 
 -- a change that keeps a link's details and whose it is
 pub own_changed : (f : Link → Link) → ((id : PortId) (l : Link) → own_details id (Some (f l)) ≡ own_details id (Some l)) → (id : PortId) (ps : Places) (i j : ℕ)
     → own_details id (at (changed ps i f) j) ≡ own_details id (at ps j)
-own_changed f keep id ps i j = go ps i j
+own_changed f keep id ps i = set_each (λ x y. own_details id y ≡ own_details id x) (λ x. refl) ps i _ None (through (at ps i))
   where
     through : (x : Option Link) → own_details id (option_map f x) ≡ own_details id x
     through None = refl
     through (Some l) = keep id l
-
-    go : (qs : Places) (i j : ℕ) → own_details id (at (changed qs i f) j) ≡ own_details id (at qs j)
-    go [] i j = refl
-    go (q ∷ qs) zero zero = through q
-    go (q ∷ qs) zero (suc j) = refl
-    go (q ∷ qs) (suc i) zero = refl
-    go (q ∷ qs) (suc i) (suc j) = go qs i j
 
 -- WHAT SUBSCRIBERS AND TURNS LEAVE
 
