@@ -1,9 +1,8 @@
 -- What an offset names: the segment and the bucket of a chunk, and the bytes that it has.
-use Rattle.std.proofs.Common.{◌≡◌, ℕ, ◌+◌, ◌*◌, ◌/◌, ◌%◌, ◌^◌, ◌<◌, ◌≤◌, Bool, true, false, cond, not, List, length, get_or, set, Some, None, Option, sym, refl, ap, ◌∙◌, inl, inr, ⊎_elim, mul-div_cancel, arith}
+use Rattle.std.proofs.Common.{rules, arith, ◌≡◌, ℕ, ◌+◌, ◌*◌, ◌/◌, ◌%◌, ◌^◌, ◌<◌, ◌≤◌, Bool, true, false, cond, List, length, get_or, set, Some, None, Option, sym, refl, ap, ◌∙◌, inl, inr, ⊎_elim, mul-div_cancel}
 use native.Mathlib.Nat.{mul-mod_left}
-use Rattle.std.proofs.lemmas.Nat.{row_fits, row_fits_turned, div-add-mod', div-mul-add, mod-mul-add}
-use Rattle.std.proofs.lemmas.Bool.{and_parts, and_from, eqb-true, eq-eqb, ltb-true, lt-ltb, cases_order}
-use Rattle.std.proofs.lemmas.Bool.Decides.{nat_tests}
+use Rattle.std.proofs.lemmas.Nat.{row_fits_turned, div-add-mod', div-mul-add, mod-mul-add}
+use Rattle.std.proofs.lemmas.Bool.{and_from, eq-eqb, lt-ltb, cases_order}
 use Rattle.elementary.specs.Ids.{packed, distance, segment}
 use Rattle.rules.specs.Memory.{Mem, Segment, Sound, segment_at, no_segment, home, bucket, is_chunk, offset_of, end_of, start_of, with_segments, remarked, Takes}
 use Rattle.rules.specs.Bytes.{place, room}
@@ -13,11 +12,7 @@ use Rattle.rules.proofs.Lists.{within}
 -- a chunk's distance is that of its bucket, which is there
 pub chunk_bucket : (gs : List Segment) (o : ℕ) → is_chunk gs o ≡ true
     → (distance o ≡ bucket gs o * (home gs o).size) × (bucket gs o < length (home gs o).taken)
-chunk_bucket gs o e =
-    let a = and_parts _ _ e in
-    let z : distance o % (home gs o).size ≡ 0 = eqb-true _ _ a.0 in
-    let d = div-add-mod' (distance o) (home gs o).size in
-    (omega arith, ltb-true _ _ a.1)
+chunk_bucket gs o e = search rules
 
 pub chunk_there : (gs : List Segment) (o : ℕ) → is_chunk gs o ≡ true → segment o < length gs
 chunk_there gs o e = within gs (segment o) no_segment (λ none. omega (arith, (chunk_bucket gs o e).1, ap (λ (g : Segment). length g.taken) none))
@@ -28,11 +23,7 @@ unpacked o = div-add-mod' o 256
 
 -- so two chunks of one segment and one bucket are one chunk
 pub same_bucket : (gs : List Segment) (o p : ℕ) → is_chunk gs o ≡ true → is_chunk gs p ≡ true → segment o ≡ segment p → bucket gs o ≡ bucket gs p → o ≡ p
-same_bucket gs o p co cp s b =
-    let h = ap (λ k. (segment_at gs k).size) s in
-    let d : distance o ≡ distance p =
-    (chunk_bucket gs o co).0 ∙ (ap (λ x. x * (home gs o).size) b ∙ (ap (λ z. bucket gs p * z) h ∙ sym (chunk_bucket gs p cp).0)) in
-    sym (unpacked o) ∙ (ap (λ x. packed x (segment o)) d ∙ (ap (packed (distance p)) s ∙ unpacked p))
+same_bucket gs o p co cp s b = search rules
 
 -- every bucket has an offset that names it
 pub named : (gs : List Segment) (s b : ℕ) → s < 256 → 0 < (segment_at gs s).size → b < length (segment_at gs s).taken
@@ -57,20 +48,12 @@ chunk_within m o e =
     omega (arith, row_fits_turned (bucket gs o) (home gs o).size (home gs o).size (length (home gs o).taken) c.1 (omega arith), c.0)
 
 pub within_capacity : WithinCapacity
-within_capacity limit m o sound e =
-    let w = chunk_within m o e in
-    let s = (sound.shaped (segment o) (chunk_there m.segments o e)).within in
-    omega arith
+within_capacity = grind (arith, chunk_within, chunk_there)
 
 -- and before the next one begins
 before : (m : Mem) (o p : ℕ) → is_chunk m.segments o ≡ true → is_chunk m.segments p ≡ true → segment o ≡ segment p
     → bucket m.segments o < bucket m.segments p → place m o + room m o ≤ place m p
-before m o p co cp s lt =
-    let gs = m.segments in
-    let r = row_fits (bucket gs o) (home gs o).size (bucket gs p) (home gs o).size lt (omega arith) in
-    let h : home gs o ≡ home gs p = ap (segment_at gs) s in
-    let e : bucket gs p * (home gs o).size ≡ distance p = ap (λ (g : Segment). bucket gs p * g.size) h ∙ sym (chunk_bucket gs p cp).0 in
-    omega (arith, r, e, (chunk_bucket gs o co).0, ap (λ (g : Segment). g.start) h)
+before m o p co cp s lt = search rules
 
 pub no_byte_shared : NoByteShared
 no_byte_shared limit m o p sound co cp ne =
@@ -89,9 +72,7 @@ no_byte_shared limit m o p sound co cp ne =
 
 -- a segment's start is a small number
 pub start_low : (limit : ℕ) (m : Mem) (s x : ℕ) → Sound limit m → Some x ≡ start_of m.segments s → x < 2 ^ 63
-start_low limit m s x sound e =
-    let found : (s < length m.segments) × (x ≡ (segment_at m.segments s).start) = grind (arith, nat_tests) in
-    omega (arith, found.1, (sound.shaped s found.0).low)
+start_low limit m s x sound e = search rules
 
 -- what a search for a chunk's bytes found lies within the capacity
 pub located : (limit : ℕ) (m : Mem) (o start size : ℕ) → Sound limit m
@@ -108,16 +89,4 @@ located limit m o start size sound e = go (is_chunk m.segments o) refl e
 pub takes_bucket : (m n : Mem) (asked s b : ℕ) → s < 256 → 0 < (segment_at m.segments s).size → b < length (segment_at m.segments s).taken
     → get_or (segment_at m.segments s).taken b false ≡ false → asked ≤ (segment_at m.segments s).size
     → n ≡ with_segments m (set m.segments s (remarked (segment_at m.segments s) b true)) → Takes m asked (offset_of m.segments s b) n
-takes_bucket m n asked s b h pos lt free large after =
-    let gs = m.segments in
-    let o = offset_of gs s b in
-    let e = named gs s b h pos lt in
-    let eh : home gs o ≡ segment_at gs s = ap (segment_at gs) e.0 in
-    record {
-      free = and_from _ _ e.2 (ap (λ (g : Segment). not (get_or g.taken (bucket gs o) false)) eh ∙ (ap (λ k. not (get_or (segment_at gs s).taken k false)) e.1 ∙ ap not free));
-      large = omega (arith, ap (λ (g : Segment). g.size) eh);
-      after = after ∙ ap (with_segments m)
-          (sym (ap (λ k. set gs k (remarked (home gs o) (bucket gs o) true)) e.0
-          ∙ (ap (λ (g : Segment). set gs s (remarked g (bucket gs o) true)) eh
-          ∙ ap (λ k. set gs s (remarked (segment_at gs s) k true)) e.1)));
-    }
+takes_bucket m n asked s b h pos lt free large after = search (rules, named)

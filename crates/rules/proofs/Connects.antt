@@ -1,31 +1,28 @@
 -- A new link, with the history that it gets, keeps a publisher in order.
-use Rattle.std.proofs.Common.{cond, ◌≡◌, ℕ, ◌+◌, ◌-◌, ◌<◌, ◌≤◌, true, false, ◌&&◌, eqb, ltb, ◌⊎◌, List, [], ◌∷◌, ◌++◌, length, get_or, set, is_some, Some, None, Ok, Err, fold, Option, Result, sym, refl, ap, ◌∙◌, subst, inl, inr, ⊎_elim, arith, MatchOption}
-use Rattle.std.proofs.lemmas.Option.{same_Some}
+use Rattle.std.proofs.Common.{rules, arith, cond, ◌≡◌, ℕ, ◌+◌, ◌-◌, ◌<◌, ◌≤◌, true, false, ◌&&◌, eqb, ◌⊎◌, List, [], ◌∷◌, length, get_or, set, is_some, Some, None, Ok, Err, fold, Option, Result, sym, refl, ap, ◌∙◌, subst, ⊎_elim, MatchOption}
+use Rattle.std.proofs.lemmas.Bool.Decides.{nat_tests}
 use Rattle.std.proofs.lemmas.List.Sums.{sum_by-take-drop, sum_by-set}
 use Rattle.std.proofs.lemmas.List.{get_or-set_same, get_or-set_other, length-set}
-use Rattle.std.proofs.lemmas.Bool.{cases_Bool, cases_eq, cases_lt, cond-true, cond-false, lt-ltb, ltb-false, and_parts, and_from, eq-eqb, eqb-true, false≢true}
+use Rattle.std.proofs.lemmas.Bool.{cases_eq, cond-true, and_parts, eq-eqb, false≢true}
 use Rattle.elementary.specs.Ids.{same_port}
 use Rattle.elementary.specs.declared.port_id.PortId.{PortId}
 use Rattle.elementary.specs.declared.pointer_offset.PointerOffset.{PointerOffset}
 use Rattle.elementary.specs.declared.port_list.SubscriberDetails.{SubscriberDetails}
 use Rattle.elementary.specs.declared.link.LinkDetails.{LinkDetails}
 use Rattle.elementary.specs.declared.link.Standing.{Standing}
-use Rattle.elementary.specs.declared.link.Standing.TheVariants.{NeverAttached, Attached, Gone}
 use Rattle.elementary.specs.declared.link.Event.TheVariants.{Attach}
 use Rattle.elementary.specs.declared.link.End.TheVariants.{Sender}
 use Rattle.elementary.specs.declared.error.ZeroCopySendError.{ZeroCopySendError}
 use Rattle.elementary.specs.declared.error.ZeroCopyCreationError.{ZeroCopyCreationError}
-use Rattle.elementary.specs.declared.error.ZeroCopyCreationError.TheVariants as creating
 use Rattle.rules.specs.Pools.{by}
 use Rattle.rules.specs.Links.{Link, attached, never, next_standing, stepped, fresh, listed, times}
-use Rattle.rules.specs.Bank.{Places, at, sends, between, agree, connects, join_fault, first, create_fault, MayTake, SafeBank}
+use Rattle.rules.specs.Bank.{Places, at, sends, agree, connects, first, create_fault, MayTake, SafeBank}
 use Rattle.rules.specs.Publisher.{Connection, Side, slot_at, with_slots, wanted, connect_fault, taken_up, handed, last_of, connected, Connects, reclaimed_all}
 use Rattle.rules.specs.Books.{mine, held_here, held_by, owns, Wired, InOrder}
-use Rattle.rules.proofs.Lists.{set_cases}
 use Rattle.rules.proofs.Offsets.{one, times_cons}
-use Rattle.rules.proofs.Banks.{creatable, found_link, first_found}
+use Rattle.rules.proofs.Banks.{creatable, first_found}
 use Rattle.rules.proofs.Safe.{safe_created, never_attached}
-use Rattle.rules.proofs.Views.{same_port_refl, own_details, none_held, foreign, not_mine, unmoved_set}
+use Rattle.rules.proofs.Views.{own_details, none_held, foreign, not_mine, unmoved_set}
 use Rattle.rules.proofs.Passages.{Passage, Fits, shape_refl, passage_refl, passage_trans}
 use Rattle.rules.proofs.Reclaims.{reclaiming, reclaiming_passes, reclaimed_slots}
 use Rattle.rules.proofs.Posts.{Posted, posted}
@@ -41,9 +38,7 @@ record Fresh (id : PortId) (d : LinkDetails) (x : Option Link) (l : Link) : Type
   borrow : l.details.max_borrowed_samples ≡ d.max_borrowed_samples
 
 attach_never : (s : Standing) → never s ≡ true → attached (next_standing s Attach) ≡ true
-attach_never NeverAttached e = refl
-attach_never Attached e = absurd (false≢true e)
-attach_never Gone e = absurd (false≢true e)
+attach_never s h = search rules
 
 nobody's : (l : Link) → never l.sender_end ≡ true → (a : PortId) → owns a (Some l) ≡ false
 nobody's l e a = ap (λ b. b && same_port l.details.sender_port_id a) (never_attached l.sender_end e)
@@ -51,38 +46,11 @@ nobody's l e a = ap (λ b. b && same_port l.details.sender_port_id a) (never_att
 -- the settings of a link that is joined agree
 join_agrees : (ps : Places) (d : LinkDetails) (l : Link) → create_fault Sender ps d ≡ None → first (connects d) ps < length ps → at ps (first (connects d) ps) ≡ Some l
     → agree l.details d ≡ true
-join_agrees ps d l e lt here = ⊎_elim (λ yes. yes)
-    (λ no. let c = creatable Sender ps d e in
-    let shown : create_fault Sender ps d ≡ Some creating.IncompatibleSettings
-    = cond-false _ _ _ c.buffer ∙ (cond-true _ _ _ (lt-ltb _ _ lt) ∙ (ap (λ x. by x None (join_fault Sender d)) here ∙ (cond-true _ _ _ (c.joined lt l here) ∙ cond-false _ _ _ no))) in
-    absurd (false≢true (ap is_some (sym e ∙ shown))))
-    (cases_Bool (agree l.details d))
+join_agrees ps d l e lt here = search rules
 
 newly : (id : PortId) (ps : Places) (d : LinkDetails) (q : ℕ) → d.sender_port_id ≡ id → SafeBank ps → create_fault Sender ps d ≡ None → MayTake ps d q
     → Fresh id d (at ps q) (stepped Sender Attach (by (at ps q) (fresh d) (λ k. k)))
-newly id ps d q sender safe e may = ⊎_elim
-    (λ lt. let f = found_link d (at ps (first (connects d) ps)) (first_found (connects d) ps lt) in
-    let k = f.0 in
-    let here : at ps q ≡ Some k = ap (at ps) (may.joins lt) ∙ f.1 in
-    let n : never k.sender_end ≡ true = (creatable Sender ps d e).joined lt k f.1 in
-    let ports : between k.details d ≡ true = ap (connects d) (sym f.1) ∙ first_found (connects d) ps lt in
-    let u = safe.unsent q k here n in
-    let a = and_parts (eqb k.details.buffer_size d.buffer_size) _ (join_agrees ps d k e lt f.1) in
-    subst (λ x. Fresh id d x (stepped Sender Attach (by x (fresh d) (λ z. z)))) (sym here) (record {
-      was = nobody's k n;
-      now = and_from _ _ (attach_never k.sender_end n) (ap (same_port k.details.sender_port_id) (sym sender) ∙ (and_parts _ _ ports).0);
-      empty = λ o. ap (λ w. times (w ++ (k.borrowed ++ k.returned)) o) u.0 ∙ (ap (λ b. times (b ++ k.returned) o) u.1 ∙ ap (λ r. times r o) u.2);
-      buffer = eqb-true _ _ a.0;
-      borrow = eqb-true _ _ (and_parts (eqb k.details.max_borrowed_samples d.max_borrowed_samples) _ a.1).0;
-    }))
-    (λ le. subst (λ x. Fresh id d x (stepped Sender Attach (by x (fresh d) (λ z. z)))) (sym (may.takes le)) (record {
-      was = λ a. refl;
-      now = ap (same_port d.sender_port_id) (sym sender) ∙ same_port_refl d.sender_port_id;
-      empty = λ o. refl;
-      buffer = refl;
-      borrow = refl;
-    }))
-    (cases_lt (first (connects d) ps) (length ps))
+newly id ps d q sender safe e may = grind (arith, nat_tests, first_found, creatable)
 
 -- A SLOT FILLED
 
@@ -92,8 +60,7 @@ joined_at g i c l = record { port = with_slots g.port (set g.port.slots i (Some 
 
 slot_now : (xs : List (Option Connection)) (i : ℕ) (c : Connection) (j : ℕ) (d : Connection) → i < length xs → get_or (set xs i (Some c)) j None ≡ Some d
     → ((j ≡ i) × (d ≡ c)) ⊎ ((j ≡ i → ⊥) × (get_or xs j None ≡ Some d))
-slot_now xs i c j d lt e =
-    ⊎_elim (λ new. inl (new.0, same_Some d c (sym e ∙ new.1))) (λ old. inr (old.0 lt, sym old.1 ∙ e)) (set_cases xs i (Some c) None j)
+slot_now xs i c j d lt e = search rules
 
 wire_joined : (g : Side) (i : ℕ) (c : Connection) (l : Link) → i < length g.port.slots → c.place < length g.links → slot_at g.port i ≡ None
     → ((a : PortId) → owns a (at g.links c.place) ≡ false) → mine g.port.id l ≡ true → Wired g.port g.links → Wired (joined_at g i c l).port (joined_at g i c l).links
@@ -221,10 +188,7 @@ pub record Joined (loans hand : List PointerOffset) (g h : Side) : Type 0 where
 
 small_buffer : (g : Side) (e : SubscriberDetails) → connect_fault g e ≡ None
     → (e.buffer_size ≤ g.port.settings.subscriber_max_buffer_size) × (create_fault Sender g.links (wanted g.port e) ≡ None)
-small_buffer g e none = ⊎_elim
-    (λ bad. absurd (false≢true (ap is_some (sym none ∙ cond-true _ (Some creating.IncompatibleBufferSize) (create_fault Sender g.links (wanted g.port e)) bad))))
-    (λ good. (ltb-false _ _ good, sym (cond-false _ (Some creating.IncompatibleBufferSize) _ good) ∙ none))
-    (cases_Bool (ltb g.port.settings.subscriber_max_buffer_size e.buffer_size))
+small_buffer g e none = search rules
 
 connect : (loans hand : List PointerOffset) (g : Side) (e : SubscriberDetails) (q : ℕ) → connect_fault g e ≡ None → MayTake g.links (wanted g.port e) q
     → e.place < length g.port.slots → slot_at g.port e.place ≡ None → SafeBank g.links → ((o : ℕ) → times hand o ≤ 1) → InOrder loans hand g

@@ -1,5 +1,5 @@
 -- A send keeps a publisher in order.
-use Rattle.std.proofs.Common.{◌≡◌, ℕ, suc, ◌+◌, ◌<◌, ◌≤◌, Bool, true, false, cond, eqb, ltb, List, [], ◌∷◌, ◌++◌, get_or, Some, None, Ok, Err, Option, Result, sym, refl, ap, ◌∙◌, subst, ⊎_elim, arith}
+use Rattle.std.proofs.Common.{rules, ◌≡◌, ℕ, suc, ◌+◌, ◌<◌, ◌≤◌, Bool, true, false, cond, eqb, List, [], ◌∷◌, ◌++◌, get_or, Some, None, Ok, Err, Option, Result, sym, refl, ap, ◌∙◌, subst, ⊎_elim, arith}
 use Rattle.std.specs.Option.{option_to_list}
 use Rattle.std.proofs.lemmas.Bool.{cases_eq, cond-true, cond-false, eq-eqb, ne_eqb, false≢true}
 use Rattle.container.specs.Queue.{without, overflowed, evicted}
@@ -8,18 +8,14 @@ use Rattle.elementary.specs.declared.pointer_offset.PointerOffset.{PointerOffset
 use Rattle.elementary.specs.declared.port_list.SubscriberDetails.{SubscriberDetails}
 use Rattle.elementary.specs.declared.settings.PublisherSettings.{PublisherSettings}
 use Rattle.elementary.specs.declared.backpressure.BackpressureAction.{BackpressureAction}
-use Rattle.elementary.specs.declared.backpressure.BackpressureAction.TheVariants as action
 use Rattle.elementary.specs.declared.backpressure.BackpressureStrategy.{BackpressureStrategy}
-use Rattle.elementary.specs.declared.backpressure.BackpressureStrategy.TheVariants as strategy
 use Rattle.elementary.specs.declared.backpressure.DegradationAction.{DegradationAction}
-use Rattle.elementary.specs.declared.backpressure.DegradationAction.TheVariants.{Ignore, Warn, DegradeAndFail}
 use Rattle.elementary.specs.declared.error.ZeroCopySendError.{ZeroCopySendError}
-use Rattle.elementary.specs.declared.error.ZeroCopySendError.TheVariants as sending
 use Rattle.elementary.specs.declared.error.SendError.{SendError}
 use Rattle.elementary.specs.declared.error.SendError.TheVariants as send
 use Rattle.rules.specs.Links.{times}
 use Rattle.rules.specs.Bank.{Goes, Places, sends, Turned, SafeBank}
-use Rattle.rules.specs.Publisher.{Connection, Pub, Side, slot_at, with_history, with_loans, hold, let_go, let_go_if, reclaimed_all, is_live, noted, Updates, Going, Verdict, accepts, passes, fails, tries_again, Handler, followed, acted, within_budget, degraded, has_receiver, judged, ended, with_links, Tries, tried, turned, Rounds, done, skipped, stopped, next, Delivers, spent, Posts, Sends}
+use Rattle.rules.specs.Publisher.{Connection, Pub, Side, slot_at, with_history, with_loans, hold, let_go, let_go_if, reclaimed_all, is_live, noted, Updates, Going, Verdict, passes, Handler, followed, acted, within_budget, degraded, judged, ended, with_links, Tries, tried, turned, Rounds, done, skipped, stopped, next, Delivers, spent, Posts, Sends}
 use Rattle.rules.specs.Books.{count_of, Books, InOrder}
 use Rattle.rules.proofs.Offsets.{one, times_cons, times_append, without_times, overflowed_times}
 use Rattle.rules.proofs.Keep.{holding, letting_go}
@@ -43,43 +39,22 @@ idle_passes : Idle passes
 idle_passes a c o = refl
 
 idle_budget : (s : PublisherSettings) (n : ℕ) (v : Verdict) → Idle v → Idle (within_budget s n v)
-idle_budget s n (accepts e) i = i
-idle_budget s n passes i = i
-idle_budget s n (fails e) i = i
-idle_budget s n tries_again i = go (ltb n s.max_retries)
-  where
-    go : (b : Bool) → Idle (cond b tries_again (fails send.UnableToDeliver))
-    go true a c o = refl
-    go false a c o = refl
+idle_budget s n v h = search rules
 
 idle_followed : (s : BackpressureStrategy) → Idle (followed s)
-idle_followed strategy.RetryUntilDelivered a c o = refl
-idle_followed strategy.DiscardData a c o = refl
+idle_followed s = search rules
 
 idle_acted : (s : PublisherSettings) (x : BackpressureAction) → Idle (acted s x)
-idle_acted s action.FollowBackpressureStrategy a c o = idle_followed s.backpressure_strategy a c o
-idle_acted s action.Retry a c o = refl
-idle_acted s action.DiscardData a c o = refl
-idle_acted s action.DiscardDataAndFail a c o = refl
+idle_acted s x = search rules
 
 idle_degraded : (d : DegradationAction) → Idle (degraded d)
-idle_degraded Ignore a c o = refl
-idle_degraded Warn a c o = refl
-idle_degraded DegradeAndFail a c o = refl
+idle_degraded d = search rules
 
 idle_cond : (b : Bool) (v w : Verdict) → Idle v → Idle w → Idle (cond b v w)
-idle_cond true v w i j = i
-idle_cond false v w i j = j
+idle_cond b v w h k = search rules
 
 idle_refused : (f : Handler) (g : Side) (d : Connection) (n : ℕ) (e : ZeroCopySendError) → Idle (judged f g d n (Err e))
-idle_refused f g d n sending.NotConnected = idle_passes
-idle_refused f g d n sending.InternalError = λ a c o. refl
-idle_refused f g d n sending.ConnectionCorrupted = idle_degraded g.port.settings.degradation_action
-idle_refused f g d n sending.UsedChunkListFull = idle_passes
-idle_refused f g d n sending.ReceiveBufferFull =
-    let s = g.port.settings in
-    let x = f (record { sender_port_id = g.port.id; receiver_port_id = d.peer; retries = n }) in
-    idle_cond (has_receiver g.links d.place) (within_budget s n (acted s x)) passes (idle_budget s n (acted s x) (idle_acted s x)) idle_passes
+idle_refused f g d n e = search rules
 
 -- what a delivery needs of the chunk that it delivers
 record Held (hand : List PointerOffset) (o : PointerOffset) (g : Side) : Type 0 where
@@ -173,8 +148,7 @@ entered loans hand p ps n o absent k = record {
 }
 
 if_history : (p : Pub) (e : Option PointerOffset) → (let_go_if p e).history ≡ p.history
-if_history p None = refl
-if_history p (Some o) = refl
+if_history p e = search rules
 
 noting : (loans hand : List PointerOffset) (g : Side) (o : PointerOffset) → 0 < count_of g.port o.value → count_of g.port o.value < 10 → times loans o.value ≡ 0
     → times g.port.history o.value ≡ 0 → InOrder loans hand g → Noted loans hand g o (record { port = noted g.port o; links = g.links })
@@ -279,11 +253,7 @@ posts f g m o None r k d p safe i w =
     spending g k o (y.passage.loans ∙ (n.loans_same ∙ p.loans)) (y.passage.closed ∙ (n.closed ∙ p.closed)) (course_trans p.course (course_trans n.course y.passage.course)) y.order
 
 single_hand : (o : PointerOffset) (x : ℕ) → times (o ∷ []) x ≤ 1
-single_hand o x = go (eqb o.value x) refl
-  where
-    go : (b : Bool) → eqb o.value x ≡ b → times (o ∷ []) x ≤ 1
-    go true e = omega (arith, times_cons o [] x, ap (λ t. cond {A = ℕ} t 1 0) e)
-    go false e = omega (arith, times_cons o [] x, ap (λ t. cond {A = ℕ} t 1 0) e)
+single_hand o x = search rules
 
 pub sending_off : (f : Handler) (g : Side) (o : PointerOffset) (n : ℕ) (es : List SubscriberDetails) (r : Result ℕ SendError) (h : Side) → Sends f g o n es r h
     → is_live g.port o ≡ true → SafeBank g.links → InOrder g.port.loans [] g → SentOff g o h

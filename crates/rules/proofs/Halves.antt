@@ -1,5 +1,5 @@
 -- No call of a subscriber changes what the links hold for their senders.
-use Rattle.std.proofs.Common.{◌≡◌, ℕ, zero, suc, ◌+◌, Bool, true, false, cond, ◌||◌, List, [], ◌∷◌, length, get_or, drop, is_some, Some, None, Ok, Err, Option, Result, sym, refl, subst}
+use Rattle.std.proofs.Common.{arith, rules, ◌≡◌, ℕ, zero, suc, ◌+◌, Bool, true, false, cond, List, [], ◌∷◌, length, get_or, drop, is_some, Some, None, Ok, Err, Option, Result, sym, refl, subst}
 use Rattle.std.specs.List.{remove}
 use Rattle.elementary.specs.declared.port_id.PortId.{PortId}
 use Rattle.elementary.specs.declared.pointer_offset.PointerOffset.{PointerOffset}
@@ -8,13 +8,12 @@ use Rattle.elementary.specs.declared.chunk_details.ChunkDetails.{ChunkDetails}
 use Rattle.elementary.specs.declared.link.End.TheVariants.{Receiver}
 use Rattle.elementary.specs.declared.error.ReceiveError.{ReceiveError}
 use Rattle.elementary.specs.declared.error.UpdateError.{UpdateError}
-use Rattle.elementary.specs.declared.error.UpdateError.TheVariants as update
 use Rattle.elementary.specs.declared.error.ZeroCopyReceiveError.{ZeroCopyReceiveError}
 use Rattle.elementary.specs.declared.error.ZeroCopyCreationError.{ZeroCopyCreationError}
 use Rattle.rules.specs.Pools.{by}
 use Rattle.rules.specs.Bank.{Goes, Places, receives, received, given_back, MayTake, created, detached, receive_at, release_at, has_data}
-use Rattle.rules.specs.Publisher.{first_of, is_seen}
-use Rattle.rules.specs.Subscriber.{Stored, Half, with_links, with_expired, key_at, stored_at, has_borrows, dropped, victim, struck, has_room, room_made, listed, busy, key_prepared, prepared, prepare_fault, begun, tag_slot, has_peer, wanted, has_key, stored_new, made_at, MakesBy, Makes, link_fault, Enters, entry_fault, stops, malformed, is_stale, taken_out, visited, visit_fault, swept, finished, Cycles, Updates, Translation, left, asks, asked, Way, gives, drops, ends, Walk, passed, walk, Walked, onward, walks, expired_walk, Served, served, serve, receive_after, over, release_after, ends_detached}
+use Rattle.rules.specs.Publisher.{first_of}
+use Rattle.rules.specs.Subscriber.{Stored, Half, with_links, with_expired, key_at, stored_at, has_borrows, dropped, victim, struck, has_room, room_made, listed, busy, key_prepared, prepared, prepare_fault, begun, tag_slot, has_peer, wanted, has_key, stored_new, made_at, MakesBy, Makes, link_fault, Enters, entry_fault, stops, is_stale, taken_out, visited, visit_fault, swept, finished, Cycles, Updates, Translation, left, asks, asked, Way, gives, drops, ends, Walk, passed, walk, Walked, onward, walks, expired_walk, Served, served, serve, receive_after, over, release_after, ends_detached}
 use Rattle.rules.specs.Holdings.{Stirred, NothingTakenAway, OnlyStirred}
 use Rattle.rules.proofs.Holdings.{stir_refl, stir_trans, stir_moved, stir_detached, stir_created, stir_turned}
 
@@ -87,13 +86,7 @@ stir_asked : (t : Translation) (ps : Places) (c : Stored) → Stirred ps (asked 
 stir_asked t ps c = stir_trans (stir_moved ps (receive_at c.place)) (stir_left t c (receives ps c.place) (received ps c.place))
 
 stir_passed : (n k : ℕ) (c : Stored) (qs : Places) (r : Result (Option ChunkDetails) ReceiveError) (rest : Walk) → Stirred qs rest.links → Stirred qs (passed qs n k c r rest).links
-stir_passed n k c qs (Err e) rest h = h
-stir_passed n k c qs (Ok (Some x)) rest h = stir_refl qs
-stir_passed n k c qs (Ok None) rest h = or (has_data qs c.place || has_borrows qs c.place)
-  where
-    or : (b : Bool) → Stirred qs (cond b rest (record { way = drops n k; links = qs })).links
-    or true = h
-    or false = stir_refl qs
+stir_passed n k c qs r rest h = search rules
 
 stir_walk : (t : Translation) (st : List (Option Stored)) (ks : List ℕ) (ps : Places) (n : ℕ) → Stirred ps (walk t st ps n ks).links
 stir_walk t st [] ps n = stir_refl ps
@@ -116,9 +109,7 @@ stir_walks t (suc m) s skip =
     (stir_onward (with_links s (walk t s.port.storage s.links 0 (drop skip s.port.expired)).links) (walk t s.port.storage s.links 0 (drop skip s.port.expired)).way (λ x n. walks t x n m) (λ x n. stir_walks t m x n))
 
 stir_served : (qs : Places) (r : Result (Option ChunkDetails) ReceiveError) (x y : Served) → Stirred qs x.links → Stirred qs y.links → Stirred qs (served qs r x y).links
-stir_served qs (Ok (Some a)) x y h g = stir_refl qs
-stir_served qs (Ok None) x y h g = g
-stir_served qs (Err e) x y h g = h
+stir_served qs r x y h k = search rules
 
 stir_serve : (t : Translation) (cs : List (Option Stored)) (ps : Places) (so fr : Bool) (k : ℕ) → Stirred ps (serve t ps so fr k cs).links
 stir_serve t [] ps so fr k = stir_refl ps
@@ -186,15 +177,7 @@ stir_begun : (s : Half) (n : ℕ) → Stirred s.links (begun s n).links
 stir_begun s n = half_cond s.links _ _ _ (stir_refl s.links) (stir_refl s.links)
 
 stir_updates : (known : PortId → Bool) (s : Half) (n : ℕ) (es : List PublisherDetails) (r : Option UpdateError) (t : Half) → Updates known s n es r t → Stirred s.links t.links
-stir_updates known s n es r t w = go (is_seen s.port.seen n) w
-  where
-    or : (b : Bool) → Goes b ((r ≡ Some update.MalformedList) × (t ≡ s)) (Cycles (begun s n) es None r t) → Stirred s.links t.links
-    or true v = half_like s.links s t v.1 (stir_refl s.links)
-    or false v = stir_trans (stir_begun s n) (stir_cycles es (begun s n) None r t v)
-
-    go : (b : Bool) → Goes b ((r ≡ None) × (t ≡ s)) (Goes (malformed known (length s.port.slots) es) ((r ≡ Some update.MalformedList) × (t ≡ s)) (Cycles (begun s n) es None r t)) → Stirred s.links t.links
-    go true v = half_like s.links s t v.1 (stir_refl s.links)
-    go false v = or (malformed known (length s.port.slots) es) v
+stir_updates known s n es r t w = grind (arith, stir_cycles)
 
 pub nothing_taken_away : NothingTakenAway
 nothing_taken_away = record {

@@ -1,5 +1,5 @@
 -- What every step of a publisher's call leaves as it was, beside its books.
-use Rattle.std.proofs.Common.{◌≡◌, ℕ, ◌+◌, ◌*◌, ◌/◌, ◌%◌, ◌^◌, ◌<◌, ◌≤◌, Bool, false, ◌&&◌, eqb, ltb, ◌⊎◌, List, [], ◌∷◌, ◌++◌, length, Some, None, Option, sym, refl, ap, ◌∙◌, subst, ⊎_elim, arith}
+use Rattle.std.proofs.Common.{rules, ◌≡◌, ℕ, ◌+◌, ◌<◌, ◌≤◌, Bool, false, eqb, ◌⊎◌, List, [], ◌∷◌, ◌++◌, length, Some, None, Option, sym, refl, ap, ◌∙◌, subst, ⊎_elim, arith}
 use Rattle.std.specs.Option.{option_to_list}
 use Rattle.std.proofs.lemmas.List.{length-set}
 use Rattle.std.proofs.lemmas.Bool.{cases_Bool, cases_eq, cond-true, cond-false, ne_eqb}
@@ -7,7 +7,7 @@ use Rattle.elementary.specs.Ids.{same_port, distance, segment}
 use Rattle.elementary.specs.declared.port_id.PortId.{PortId}
 use Rattle.elementary.specs.declared.pointer_offset.PointerOffset.{PointerOffset}
 use Rattle.elementary.specs.declared.link.LinkDetails.{LinkDetails}
-use Rattle.rules.specs.Memory.{Mem, IsMemory, Shaped, Fair, segment_at, home, bucket, is_chunk, taken_at, marked, remarked, with_segments, freed, end_of}
+use Rattle.rules.specs.Memory.{Mem, IsMemory, Shaped, segment_at, home, bucket, is_chunk, taken_at, marked, remarked, with_segments, freed, end_of}
 use Rattle.rules.specs.Counts.{Chunks, count_at, released}
 use Rattle.rules.specs.Bytes.{place, room}
 use Rattle.rules.specs.Bank.{Places, at, SafeBank}
@@ -32,14 +32,7 @@ pub shape_refl : (m : Mem) → SameShape m m
 shape_refl m = record { number = refl; start = λ s. refl; size = λ s. refl; count = λ s. refl; largest = refl; capacity = refl }
 
 pub shape_trans : {a b c : Mem} → SameShape a b → SameShape b c → SameShape a c
-shape_trans x y = record {
-  number = y.number ∙ x.number;
-  start = λ s. y.start s ∙ x.start s;
-  size = λ s. y.size s ∙ x.size s;
-  count = λ s. y.count s ∙ x.count s;
-  largest = y.largest ∙ x.largest;
-  capacity = y.capacity ∙ x.capacity;
-}
+shape_trans x y = search rules
 
 pub shape_marked : (m : Mem) (o : ℕ) (t : Bool) → SameShape m (with_segments m (marked m.segments o t))
 shape_marked m o t = record {
@@ -65,18 +58,10 @@ shape_released c o = ⊎_elim
 
 -- a memory by its shape
 end_same : (m n : Mem) (s : ℕ) → SameShape m n → end_of (segment_at n.segments s) ≡ end_of (segment_at m.segments s)
-end_same m n s x =
-    ap (λ k. k + (segment_at n.segments s).size * length (segment_at n.segments s).taken) (x.start s)
-    ∙ (ap (λ k. (segment_at m.segments s).start + k * length (segment_at n.segments s).taken) (x.size s)
-    ∙ ap (λ k. (segment_at m.segments s).start + (segment_at m.segments s).size * k) (x.count s))
+end_same m n s x = search rules
 
 shaped_same : (m n : Mem) (s : ℕ) → SameShape m n → Shaped m (segment_at m.segments s) → Shaped n (segment_at n.segments s)
-shaped_same m n s x h = record {
-  fair = subst (λ z. Fair z (length (segment_at n.segments s).taken)) (sym (x.size s)) (subst (Fair (segment_at m.segments s).size) (sym (x.count s)) h.fair);
-  largest = omega (arith, x.size s, x.largest, h.largest);
-  within = omega (arith, end_same m n s x, x.capacity, h.within);
-  low = subst (λ k. k < 2 ^ 63) (sym (end_same m n s x)) h.low;
-}
+shaped_same m n s x h = search rules
 
 pub shape_memory : (m n : Mem) → SameShape m n → IsMemory m → IsMemory n
 shape_memory m n x (limit, s) = (
@@ -96,9 +81,7 @@ shape_memory m n x (limit, s) = (
 
 -- what an offset names
 pub shape_chunk : (m n : Mem) (o : ℕ) → SameShape m n → is_chunk n.segments o ≡ is_chunk m.segments o
-shape_chunk m n o x =
-    let by_size : ℕ → ℕ → Bool = λ z k. eqb (distance o % z) 0 && ltb (distance o / z) k in
-    ap (λ z. by_size z (length (home n.segments o).taken)) (x.size (segment o)) ∙ ap (by_size (home m.segments o).size) (x.count (segment o))
+shape_chunk m n o x = search rules
 
 pub shape_place : (m n : Mem) (o : ℕ) → SameShape m n → place n o ≡ place m o
 shape_place m n o x = ap (λ k. k + distance o) (x.start (segment o))
@@ -148,32 +131,12 @@ pub record Passage (g h : Side) : Type 0 where
   pub closed : h.port.closed ≡ g.port.closed
 
 pub passage_trans : {g m h : Side} → Passage g m → Passage m h → Passage g h
-passage_trans a b = record {
-  course = course_trans a.course b.course;
-  loans = b.loans ∙ a.loans;
-  history = b.history ∙ a.history;
-  closed = b.closed ∙ a.closed;
-}
+passage_trans a b = search (rules, course_trans)
 
 -- links alone change
 pub passage_links : (p : Pub) (ps qs : Places) → (SafeBank ps → SafeBank qs) → (Fits p ps → Fits p qs) → ((a : PortId) → same_port a p.id ≡ false → Unmoved a ps qs)
     → Passage (record { port = p; links = ps }) (record { port = p; links = qs })
-passage_links p ps qs bank fits others = record {
-  course = record {
-    id = refl;
-    settings = refl;
-    bytes = refl;
-    slots = refl;
-    shape = shape_refl p.chunks.mem;
-    fewer = λ o h. h;
-    bank = bank;
-    fits = fits;
-    others = others;
-  };
-  loans = refl;
-  history = refl;
-  closed = refl;
-}
+passage_links p ps qs bank fits others = search rules
 
 pub passage_refl : (g : Side) → Passage g g
 passage_refl g = passage_links g.port g.links g.links (λ s. s) (λ f. f) (λ a ne. unmoved_refl a g.links)
@@ -181,17 +144,7 @@ passage_refl g = passage_links g.port g.links g.links (λ s. s) (λ f. f) (λ a 
 -- another history, other loans, open or closed
 pub course_lists : (p : Pub) (ps : Places) (loans history : List PointerOffset) (closed : Bool)
     → Course (record { port = p; links = ps }) (record { port = record { id = p.id; settings = p.settings; chunks = p.chunks; bytes = p.bytes; loans = loans; history = history; slots = p.slots; cycle = p.cycle; seen = p.seen; closed = closed }; links = ps })
-course_lists p ps loans history closed = record {
-  id = refl;
-  settings = refl;
-  bytes = refl;
-  slots = refl;
-  shape = shape_refl p.chunks.mem;
-  fewer = λ o h. h;
-  bank = λ s. s;
-  fits = λ f. f;
-  others = λ a ne. unmoved_refl a ps;
-}
+course_lists p ps loans history closed = search rules
 
 -- LETTING GO
 

@@ -1,5 +1,5 @@
 -- Sending to one link keeps a publisher in order.
-use Rattle.std.proofs.Common.{◌≡◌, ℕ, zero, suc, ◌+◌, ◌<◌, ◌≤◌, Bool, true, false, cond, ◌||◌, List, [], ◌∷◌, ◌++◌, length, get_or, set, is_ok, Some, None, Ok, Err, sum_by, Option, Result, sym, refl, ap, ◌∙◌, ⊎_elim, arith}
+use Rattle.std.proofs.Common.{arith, rules, ◌≡◌, ℕ, zero, suc, ◌+◌, ◌<◌, ◌≤◌, Bool, true, cond, ◌||◌, List, [], ◌∷◌, ◌++◌, length, get_or, set, is_ok, Some, None, Ok, Err, sum_by, Option, Result, sym, refl, ap, ◌∙◌, ⊎_elim}
 use Rattle.std.specs.Option.{option_to_list, option_map}
 use Rattle.std.proofs.lemmas.Option.{none-some}
 use Rattle.std.proofs.lemmas.List.Sums.{sum_by-le-sum_by, count_by-le-length, sum_by-cons, sum_by-set}
@@ -10,11 +10,10 @@ use Rattle.elementary.specs.Ids.{same_chunk}
 use Rattle.elementary.specs.declared.port_id.PortId.{PortId}
 use Rattle.elementary.specs.declared.pointer_offset.PointerOffset.{PointerOffset}
 use Rattle.elementary.specs.declared.link.Mark.{Mark}
-use Rattle.elementary.specs.declared.link.Mark.TheVariants.{Sound, Corrupted, Broken}
 use Rattle.elementary.specs.declared.error.ZeroCopySendError.{ZeroCopySendError}
 use Rattle.elementary.specs.declared.error.ZeroCopySendError.TheVariants as sending
 use Rattle.rules.specs.Pools.{by}
-use Rattle.rules.specs.Links.{Link, attached, lists, listed, times, marked_send, send_answer, send_after}
+use Rattle.rules.specs.Links.{Link, attached, listed, times, marked_send, send_answer, send_after}
 use Rattle.rules.specs.Bank.{Places, at, sends, sent, SoundBank}
 use Rattle.rules.specs.Publisher.{Connection, Pub, Side, slot_at, hold, let_go_if, taken_up}
 use Rattle.rules.specs.Books.{mine, held_here, held_by, count_of, Books, owns, Wired, InOrder, CallsKeepOrder}
@@ -56,21 +55,7 @@ payload (Err f) = None
 
 answer_is : (a : Bool) (m : Mark) (l : Link) (o : PointerOffset) (e : Option PointerOffset) → cond a (marked_send m l o) (Err sending.NotConnected) ≡ Ok e
     → evicted l.details.buffer_size l.waiting o ≡ e
-answer_is false m l o e h = absurd (false≢true (ap is_ok h))
-answer_is true Broken l o e h = absurd (false≢true (ap is_ok h))
-answer_is true Corrupted l o e h = absurd (false≢true (ap is_ok h))
-answer_is true Sound l o e h =
-    let n = l.details.buffer_size in
-    let room = roomy n l.waiting || l.details.enable_safe_overflow in
-    let last : Result (Option PointerOffset) ZeroCopySendError = cond room (Ok (evicted n l.waiting o)) (Err sending.ReceiveBufferFull) in
-    ⊎_elim
-    (λ yes. absurd (false≢true (ap is_ok (sym (cond-true (lists l o) (Err sending.UsedChunkListFull) last yes) ∙ h))))
-    (λ no. let is : last ≡ Ok e = sym (cond-false (lists l o) (Err sending.UsedChunkListFull) last no) ∙ h in
-    ⊎_elim
-    (λ roomy_or. ap payload (sym (cond-true room (Ok (evicted n l.waiting o)) (Err sending.ReceiveBufferFull) roomy_or) ∙ is))
-    (λ full. absurd (false≢true (ap is_ok (sym (cond-false room (Ok (evicted n l.waiting o)) (Err sending.ReceiveBufferFull) full) ∙ is))))
-    (cases_Bool room))
-    (cases_Bool (lists l o))
+answer_is a m l o e h = search rules
 
 sent_times : (l : Link) (o : PointerOffset) (e : Option PointerOffset) (x : ℕ) → send_answer l o ≡ Ok e
     → times (listed (send_after l o)) x + times (option_to_list e) x ≡ times (listed l) x + one o x
@@ -82,25 +67,15 @@ sent_times l o e x h =
 
 here_sent : (id : PortId) (ps : Places) (i : ℕ) (o : PointerOffset) (e : Option PointerOffset) (x : ℕ) → owns id (at ps i) ≡ true → sends ps i o ≡ Ok e
     → held_here id x (option_map (λ l. send_after l o) (at ps i)) + times (option_to_list e) x ≡ held_here id x (at ps i) + one o x
-here_sent id ps i o e x = through (at ps i)
-  where
-    through : (y : Option Link) → owns id y ≡ true → by y (Err sending.NotConnected) (λ l. send_answer l o) ≡ Ok e
-        → held_here id x (option_map (λ l. send_after l o) y) + times (option_to_list e) x ≡ held_here id x y + one o x
-    through None w h = absurd (false≢true w)
-    through (Some l) w h =
-        let now : held_here id x (Some (send_after l o)) ≡ times (listed (send_after l o)) x = cond-true _ _ _ w in
-        let was : held_here id x (Some l) ≡ times (listed l) x = cond-true _ _ _ w in
-        omega (arith, now, was, sent_times l o e x h)
+here_sent id ps i o e x h k = grind (arith, sent_times)
 
 -- POSTING
 
 if_id : (p : Pub) (e : Option PointerOffset) → (let_go_if p e).id ≡ p.id
-if_id p None = refl
-if_id p (Some o) = refl
+if_id p e = search rules
 
 pub if_slots : (p : Pub) (e : Option PointerOffset) → (let_go_if p e).slots ≡ p.slots
-if_slots p None = refl
-if_slots p (Some o) = refl
+if_slots p e = search rules
 
 pub record Posted (loans hand : List PointerOffset) (g h : Side) : Type 0 where
   pub order : InOrder loans hand h
@@ -150,15 +125,10 @@ nothing_owned id o (x ∷ ps) h = omega (arith, sum_by-cons (held_here id o) x p
 
 -- one place emptied
 emptied_place : (id : PortId) (o : ℕ) (ps : Places) (i : ℕ) → held_by id ps o ≤ held_by id (set ps i None) o + held_here id o (at ps i)
-emptied_place id o ps i =
-    ⊎_elim
-    (λ lt. omega (arith, sum_by-set (held_here id o) ps i None None lt))
-    (λ le. omega (arith, ap (λ qs. held_by id qs o) (set_past ps i None le)))
-    (cases_lt i (length ps))
+emptied_place id o ps i = grind (arith, sum_by-set, set_past)
 
 none_there : (ps : Places) (i : ℕ) → at (set ps i None) i ≡ None
-none_there ps i =
-    ⊎_elim (λ lt. get_or-set_same ps i None None lt) (λ le. ap (λ qs. at qs i) (set_past ps i None le) ∙ get_or_past ps i None le) (cases_lt i (length ps))
+none_there ps i = grind (arith, get_or-set_same, set_past, get_or_past)
 
 emptied_less : (id : PortId) (o : ℕ) (ps : Places) (i : ℕ) (xs : List (Option Connection)) → sum_by (slot_holds id o (set ps i None)) xs ≤ sum_by (slot_holds id o ps) xs
 emptied_less id o ps i xs = sum_by-le-sum_by (slot_holds id o (set ps i None)) (slot_holds id o ps) xs here

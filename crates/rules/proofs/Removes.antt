@@ -1,64 +1,45 @@
 -- Removing links and closing keep a publisher in order.
-use Rattle.std.proofs.Common.{◌≡◌, ℕ, ◌+◌, ◌<◌, true, false, cond, eqb, List, [], ◌++◌, length, get_or, set, is_some, Some, None, Option, sym, refl, ap, ◌∙◌, subst, ⊎_elim, arith, MatchOption}
+use Rattle.std.proofs.Common.{rules, arith, ◌≡◌, ℕ, ◌+◌, ◌<◌, true, false, cond, eqb, List, ◌++◌, length, get_or, set, is_some, Some, None, Option, sym, refl, ap, ◌∙◌, subst, ⊎_elim, MatchOption}
 use Rattle.std.specs.List.Sorted.{IsPermutation}
-use Rattle.std.proofs.lemmas.Bool.{and_left, cases_Bool, cases_eq, cond-true, cond-false, and_parts, false≢true}
+use Rattle.std.proofs.lemmas.Bool.{cases_eq, false≢true}
 use Rattle.std.proofs.lemmas.Option.{none-some}
 use Rattle.std.proofs.lemmas.List.{get_or-set_same, get_or-set_other, length-set}
 use Rattle.std.proofs.lemmas.List.Sorted.{sum_by-IsPermutation}
 use Rattle.elementary.specs.declared.port_id.PortId.{PortId}
 use Rattle.elementary.specs.declared.pointer_offset.PointerOffset.{PointerOffset}
 use Rattle.elementary.specs.declared.link.Standing.{Standing}
-use Rattle.elementary.specs.declared.link.Standing.TheVariants.{NeverAttached, Attached, Gone}
 use Rattle.elementary.specs.declared.link.Event.TheVariants.{Detach}
 use Rattle.elementary.specs.declared.link.End.TheVariants.{Sender}
 use Rattle.elementary.specs.declared.error.CloseError.{CloseError}
 use Rattle.rules.specs.Pools.{by}
-use Rattle.rules.specs.Links.{Link, attached, next_standing, stepped, alive, listed, held, times}
+use Rattle.rules.specs.Links.{Link, attached, next_standing, stepped, times}
 use Rattle.rules.specs.Bank.{Places, at, kept, detached, held_at}
 use Rattle.rules.specs.Publisher.{Connection, Pub, Side, slot_at, with_slots, let_go_all, Removes, Empties, none, one, shut, Closes}
-use Rattle.rules.specs.Books.{mine, held_here, held_by, Books, owns, Wired, InOrder}
+use Rattle.rules.specs.Books.{held_here, held_by, Books, owns, Wired, InOrder}
 use Rattle.rules.proofs.Lists.{within, set_cases}
 use Rattle.rules.proofs.Offsets.{times_append}
 use Rattle.rules.proofs.Safe.{safe_detached}
 use Rattle.rules.proofs.Keep.{moving}
-use Rattle.rules.proofs.Views.{own_details, unmoved_refl, unmoved_set, none_held, foreign, not_owned_by_other}
-use Rattle.rules.proofs.Passages.{Passage, Fits, shape_refl, passage_refl, passage_trans, all_go, passage_all, passage_links}
+use Rattle.rules.proofs.Views.{own_details, unmoved_set, none_held, foreign, not_owned_by_other}
+use Rattle.rules.proofs.Passages.{Passage, Fits, passage_refl, passage_trans, all_go, passage_all, passage_links}
 use Rattle.rules.proofs.Reclaims.{owned_there, held_set, all_id, all_slots, all_loans}
 use Rattle.rules.proofs.Lends.{goes}
 
 -- ONE LINK
 
 detached_end : (s : Standing) → attached (next_standing s Detach) ≡ false
-detached_end NeverAttached = refl
-detached_end Attached = refl
-detached_end Gone = refl
+detached_end s = search rules
 
 not_owned : (id : PortId) (l : Link) → attached l.sender_end ≡ false → owns id (kept l) ≡ false
-not_owned id l e =
-    ⊎_elim
-    (λ yes. ap (owns id) (cond-true _ (Some l) None yes) ∙ and_left _ _ e)
-    (λ no. ap (owns id) (cond-false _ (Some l) None no))
-    (cases_Bool (alive l))
+not_owned id l e = search rules
 
 -- a link whose sender end is gone holds nothing for it
 holds_nothing : (id : PortId) (o : ℕ) (l : Link) → attached l.sender_end ≡ false → held_here id o (kept l) ≡ 0
-holds_nothing id o l e =
-    ⊎_elim
-    (λ yes. ap (held_here id o) (cond-true _ (Some l) None yes) ∙ cond-false (mine id l) _ _ (and_left _ _ e))
-    (λ no. ap (held_here id o) (cond-false _ (Some l) None no))
-    (cases_Bool (alive l))
+holds_nothing id o l e = search rules
 
 here_removed : (id : PortId) (ps : Places) (i o : ℕ) → owns id (at ps i) ≡ true
     → held_here id o (by (at ps i) None (λ l. kept (stepped Sender Detach l))) + times (held_at ps i) o ≡ held_here id o (at ps i)
-here_removed id ps i o = through (at ps i)
-  where
-    through : (x : Option Link) → owns id x ≡ true → held_here id o (by x None (λ l. kept (stepped Sender Detach l))) + times (by x [] held) o ≡ held_here id o x
-    through None e = absurd (false≢true e)
-    through (Some l) e =
-        let a : attached l.sender_end ≡ true = (and_parts (attached l.sender_end) _ e).0 in
-        let was : held_here id o (Some l) ≡ times (listed l) o = cond-true _ _ _ e in
-        let out : times (held l) o ≡ times (listed l) o = ap (λ os. times os o) (cond-true _ _ _ a) in
-        omega (arith, was, out, holds_nothing id o (stepped Sender Detach l) (detached_end l.sender_end))
+here_removed id ps i o h = search rules
 
 -- ONE SLOT
 
@@ -75,26 +56,17 @@ slot_back xs i c there j d e =
 
 -- the slots and the id that a publisher has decide how it is wired
 pub rewired : (p q : Pub) (ps : Places) → q.id ≡ p.id → q.slots ≡ p.slots → Wired p ps → Wired q ps
-rewired p q ps id slots w =
-    let back : (i : ℕ) (c : Connection) → slot_at q i ≡ Some c → slot_at p i ≡ Some c = λ i c e. sym (ap (λ xs. get_or xs i None) slots) ∙ e in
-    record {
-      own = λ i c e. ap (λ x. owns x (at ps c.place)) id ∙ w.own i c (back i c e);
-      apart = λ i j c d a b. w.apart i j c d (back i c a) (back j d b);
-      cover = λ j e. let f = w.cover j (sym (ap (λ x. owns x (at ps j)) id) ∙ e) in (f.0, (f.1.0, ap (λ xs. get_or xs f.0 None) slots ∙ f.1.1, f.1.2));
-      few = omega (arith, ap length slots, w.few);
-    }
+rewired p q ps id slots w = search rules
 
 abbrev pub place_of : Option Connection → ℕ
 place_of x = by x 0 (λ c. c.place)
 
 -- a place whose sender end was detached is no publisher's any more
 no_longer_owned : (id : PortId) (x : Option Link) → owns id (by x None (λ l. kept (stepped Sender Detach l))) ≡ false
-no_longer_owned id None = refl
-no_longer_owned id (Some l) = not_owned id (stepped Sender Detach l) (detached_end l.sender_end)
+no_longer_owned id x = search rules
 
 released_place : (id : PortId) (ps : Places) (i : ℕ) → owns id (at ps i) ≡ true → owns id (at (detached Sender ps i) i) ≡ false
-released_place id ps i e =
-    ap (owns id) (get_or-set_same ps i (by (at ps i) None (λ l. kept (stepped Sender Detach l))) None (owned_there id ps i e)) ∙ no_longer_owned id (at ps i)
+released_place id ps i e = grind (arith, get_or-set_same, owned_there)
 
 unwired : (p : Pub) (ps : Places) (i : ℕ) (c : Connection) → slot_at p i ≡ Some c → Wired p ps → Wired (with_slots p (set p.slots i None)) (detached Sender ps c.place)
 unwired p ps i c there w =
@@ -112,22 +84,7 @@ unwired p ps i c there w =
 
 -- the slot is emptied, and then the sender end detached
 slot_emptied : (p : Pub) (ps : Places) (i : ℕ) → Passage (record { port = p; links = ps }) (record { port = with_slots p (set p.slots i None); links = ps })
-slot_emptied p ps i = record {
-  course = record {
-    id = refl;
-    settings = refl;
-    bytes = refl;
-    slots = length-set p.slots i None;
-    shape = shape_refl p.chunks.mem;
-    fewer = λ o h. h;
-    bank = λ s. s;
-    fits = λ f. f;
-    others = λ a ne. unmoved_refl a ps;
-  };
-  loans = refl;
-  history = refl;
-  closed = refl;
-}
+slot_emptied p ps i = search rules
 
 detached_passes : (p : Pub) (ps : Places) (i : ℕ) → owns p.id (at ps i) ≡ true → Passage (record { port = p; links = ps }) (record { port = p; links = detached Sender ps i })
 detached_passes p ps i own = passage_links p ps (detached Sender ps i) (safe_detached Sender ps i) fits
