@@ -1,14 +1,13 @@
 -- The calls of a receiver end leave what a link holds for its sender.
-use Rattle.std.proofs.Common.{◌≡◌, ℕ, ◌+◌, Bool, true, false, cond, ◌&&◌, ◌||◌, List, [], ◌∷◌, ◌++◌, set, is_some, Some, None, fold, Option, sym, refl, ap, ◌∙◌, subst, arith}
+use Rattle.std.proofs.Common.{arith, rules, ◌≡◌, ℕ, ◌+◌, Bool, true, false, cond, ◌&&◌, List, [], ◌∷◌, ◌++◌, set, is_some, Some, None, fold, Option, sym, refl, ap, ◌∙◌, subst}
 use Rattle.std.specs.Option.{option_map, option_to_list}
 use Rattle.container.specs.Queue.{oldest, later, without}
 use Rattle.elementary.specs.Ids.{same_chunk}
 use Rattle.elementary.specs.declared.pointer_offset.PointerOffset.{PointerOffset}
 use Rattle.elementary.specs.declared.link.LinkDetails.{LinkDetails}
 use Rattle.elementary.specs.declared.link.End.TheVariants.{Receiver}
-use Rattle.elementary.specs.declared.link.Event.TheVariants.{Attach, Detach}
-use Rattle.rules.specs.Pools.{by}
-use Rattle.rules.specs.Links.{Link, attached, next_standing, stepped, fresh, listed, times, with_lists, can_borrow, receive_after, release_fault, release_after}
+use Rattle.elementary.specs.declared.link.Event.TheVariants.{Detach}
+use Rattle.rules.specs.Links.{Link, attached, stepped, times, with_lists, can_borrow, receive_after, release_fault, release_after}
 use Rattle.rules.specs.Bank.{Places, at, changed, received, given_back, create_fault, MayTake, created, kept, detached, Move, receive_at, release_at, moved, Turned}
 use Rattle.rules.specs.Holdings.{Keeps, HeldSame, Stirred}
 use Rattle.rules.proofs.Lists.{set_each}
@@ -60,12 +59,7 @@ release_keeps x l = go (is_some (release_fault l x)) refl
     go false e = same_lists l _ _ _ (λ o. omega (arith, without_times l.borrowed x o (releasable l x e).0, times_push l.returned x o))
 
 kept_keeps : (l : Link) → Keeps (Some l) (kept (stepped Receiver Detach l))
-kept_keeps l = go (attached l.sender_end) (attached (next_standing l.receiver_end Detach)) refl
-  where
-    go : (a b : Bool) → attached l.sender_end ≡ a → Keeps (Some l) (cond (a || b) (Some (stepped Receiver Detach l)) None)
-    go true b e = record { owner = refl; holds = λ o. refl }
-    go false true e = record { owner = refl; holds = λ o. refl }
-    go false false e = record { owner = sym (ap (λ x. cond x (Some l.details) None) e); holds = λ o. sym (ap (λ x. cond x (times (listed l) o) 0) e) }
+kept_keeps l = search rules
 
 -- the bank's calls at a receiver end
 held_received : (ps : Places) (i : ℕ) → HeldSame ps (received ps i)
@@ -75,18 +69,10 @@ held_given_back : (ps : Places) (i : ℕ) (o : PointerOffset) → HeldSame ps (g
 held_given_back ps i o = held_changed ps i (λ l. release_after l o) (release_keeps o)
 
 held_detached : (ps : Places) (i : ℕ) → HeldSame ps (detached Receiver ps i)
-held_detached ps i = held_set ps i _ (go (at ps i))
-  where
-    go : (x : Option Link) → Keeps x (by x None (λ l. kept (stepped Receiver Detach l)))
-    go None = keeps_refl None
-    go (Some l) = kept_keeps l
+held_detached ps i = grind (arith, held_set)
 
 held_created : (ps : Places) (d : LinkDetails) (q : ℕ) → HeldSame ps (created Receiver ps d q)
-held_created ps d q = held_set ps q _ (go (at ps q))
-  where
-    go : (x : Option Link) → Keeps x (Some (stepped Receiver Attach (by x (fresh d) (λ l. l))))
-    go None = record { owner = refl; holds = λ o. refl }
-    go (Some l) = record { owner = refl; holds = λ o. refl }
+held_created ps d q = search (rules, held_set)
 
 -- WITH THE BANK KEPT SAFE
 

@@ -1,6 +1,6 @@
 -- A loan keeps a publisher's books.
-use Rattle.std.proofs.Common.{◌≡◌, ℕ, zero, suc, ◌+◌, ◌/◌, ◌%◌, ◌<◌, ◌≤◌, Bool, true, false, cond, ◌&&◌, eqb, ltb, List, [], ◌∷◌, ◌++◌, length, get_or, replicate, Ok, Err, Result, sym, refl, ap, ◌∙◌, subst, inl, inr, ⊎_elim, arith}
-use Rattle.std.proofs.lemmas.Bool.{not-true, and_right, cond_both, cases_eq, cases_lt, cond-true, cond-false, lt-ltb, le-ltb, ltb-false, eq-eqb, ne_eqb, and_parts}
+use Rattle.std.proofs.Common.{arith, rules, ◌≡◌, ℕ, zero, suc, ◌+◌, ◌/◌, ◌%◌, ◌<◌, ◌≤◌, Bool, true, false, ◌&&◌, eqb, ltb, List, [], ◌∷◌, ◌++◌, length, get_or, replicate, Ok, Err, Result, sym, refl, ap, ◌∙◌, subst, inl, inr, ⊎_elim}
+use Rattle.std.proofs.lemmas.Bool.{not-true, and_right, cases_eq, cond-true, cond-false, lt-ltb, ltb-false, eq-eqb, ne_eqb, and_parts}
 use Rattle.std.proofs.lemmas.List.{get_or_past, get_or_push, get_or_append_left, length_push, length-set, length-replicate}
 use Rattle.elementary.specs.Ids.{distance, segment}
 use Rattle.elementary.specs.declared.pointer_offset.PointerOffset.{PointerOffset}
@@ -72,29 +72,15 @@ added_same : (gs : List Segment) (b : Segment) (s : ℕ) → s ≡ length gs →
 added_same gs b s e = get_or_push gs b no_segment s (sym e)
 
 added_other : (gs : List Segment) (b : Segment) (s : ℕ) → (s ≡ length gs → ⊥) → segment_at (gs ++ b ∷ []) s ≡ segment_at gs s
-added_other gs b s ne =
-    ⊎_elim
-    (λ lt. get_or_append_left gs (b ∷ []) no_segment s lt)
-    (λ le. get_or_past (gs ++ b ∷ []) s no_segment (omega (arith, ne, le, length_push gs b)) ∙ sym (get_or_past gs s no_segment le))
-    (cases_lt s (length gs))
+added_other gs b s ne = grind (arith, get_or_append_left, get_or_past, length_push)
 
 -- an offset of a segment that is not there names nothing
 nothing_named : (gs : List Segment) (x : ℕ) → segment x ≡ length gs → is_chunk gs x ≡ false
-nothing_named gs x e =
-    let none : length (home gs x).taken ≡ 0 = ap (λ (g : Segment). length g.taken) (get_or_past gs (segment x) no_segment (omega (arith, e))) in
-    and_right _ _ (le-ltb (bucket gs x) (length (home gs x).taken) (omega (arith, none)))
+nothing_named gs x e = search (rules, get_or_past)
 
 added_count : (gs : List Segment) (b : Segment) (cs : Counts) (x : ℕ)
     → ((s i : ℕ) → length (segment_at gs s).taken ≤ i → get_or (counts_of cs s) i 0 ≡ 0) → count_at (gs ++ b ∷ []) cs x ≡ count_at gs cs x
-added_count gs b cs x unused =
-    ⊎_elim
-    (λ same. let hs = gs ++ b ∷ [] in
-    let none : length (segment_at gs (segment x)).taken ≡ 0 = ap (λ (g : Segment). length g.taken) (get_or_past gs (segment x) no_segment (omega (arith, same))) in
-    let z : get_or (counts_of cs (segment x)) (bucket hs x) 0 ≡ 0 = unused (segment x) (bucket hs x) (omega (arith, none)) in
-    cond_both (is_chunk hs x) _ 0 (λ n. n ≡ 0) (λ _. z) (λ _. refl) ∙ sym (cond-false _ _ _ (nothing_named gs x same)))
-    (λ other. ap (λ (g : Segment). cond (eqb (distance x % g.size) 0 && ltb (distance x / g.size) (length g.taken)) (get_or (counts_of cs (segment x)) (distance x / g.size) 0) 0)
-    (added_other gs b (segment x) other))
-    (cases_eq (segment x) (length gs))
+added_count gs b cs x unused = grind (arith, get_or_past, added_other)
 
 added_taken : (gs : List Segment) (start size count x : ℕ) → taken_at (gs ++ blank start size count ∷ []) x ≡ taken_at gs x
 added_taken gs start size count x =
@@ -113,31 +99,7 @@ added_taken gs start size count x =
 
 growing_by : (loans hand : List PointerOffset) (p : Pub) (ps : Places) (n : Mem) (start size count : ℕ) → n.segments ≡ p.chunks.mem.segments ++ blank start size count ∷ []
     → length n.segments ≤ 4 → count ≤ 256 → Books loans hand p ps → Books loans hand (with_mem p n) ps
-growing_by loans hand p ps n start size count e four fair k =
-    let gs = p.chunks.mem.segments in
-    let cs = p.chunks.counts in
-    let l = k.ledger in
-    let b = blank start size count in
-    let c : (x : ℕ) → count_at n.segments cs x ≡ count_at gs cs x
-    = λ x. ap (λ hs. count_at hs cs x) e ∙ added_count gs b cs x l.unused in
-    record {
-      ledger = record {
-        segments = four;
-        buckets = λ s. ⊎_elim
-            (λ same. omega (arith, fair, length-replicate count false, ap (λ (g : Segment). length g.taken) (ap (λ hs. segment_at hs s) e ∙ added_same gs b s same)))
-            (λ other. omega (arith, l.buckets s, ap (λ (g : Segment). length g.taken) (ap (λ hs. segment_at hs s) e ∙ added_other gs b s other)))
-            (cases_eq s (length gs));
-        room = l.room;
-        unused = λ s i le. ⊎_elim
-            (λ same. l.unused s i (omega (arith, ap (λ (g : Segment). length g.taken) (get_or_past gs s no_segment (omega (arith, same))))))
-            (λ other. l.unused s i (omega (arith, le, ap (λ (g : Segment). length g.taken) (ap (λ hs. segment_at hs s) e ∙ added_other gs b s other))))
-            (cases_eq s (length gs));
-      };
-      balance = λ x. c x ∙ k.balance x;
-      free = λ x. ap (λ hs. taken_at hs x) e ∙ (added_taken gs start size count x ∙ (k.free x ∙ ap (ltb 0) (sym (c x))));
-      alone = λ x h. c x ∙ k.alone x h;
-      once = k.once;
-    }
+growing_by loans hand p ps n start size count e four fair k = grind (arith, length-replicate, added_same, added_other, get_or_past, added_taken)
 
 -- THE LOAN
 
@@ -151,16 +113,7 @@ reloaned loans hand p ps l k = record { ledger = k.ledger; balance = k.balance; 
 -- a segment that a memory made is no larger than any
 new_count : (limit : ℕ) (m : Mem) (gs : List Segment) (v start size count : ℕ) → m.segments ≡ gs ++ blank start size count ∷ []
     → Sound limit (with_segments m (marked m.segments v true)) → (length m.segments ≤ 4) × (count ≤ 256)
-new_count limit m gs v start size count e s =
-    let ms = m.segments in
-    let last = length gs in
-    let long : length (marked ms v true) ≡ length ms = length-set ms (segment v) _ in
-    let more : length ms ≡ last + 1 = ap length e ∙ length_push gs (blank start size count) in
-    let fair : length (segment_at (marked ms v true) last).taken ≤ 256 = (s.shaped last (omega (arith, long, more))).fair.4 in
-    let same : segment_at ms last ≡ blank start size count = ap (λ hs. segment_at hs last) e ∙ added_same gs (blank start size count) last refl in (
-      omega (arith, s.few, s.limits, long),
-      omega (arith, fair, mark_count ms v true last, ap (λ (g : Segment). length g.taken) same, length-replicate count false),
-    )
+new_count limit m gs v start size count e s = grind (arith, length-set, length_push, added_same, mark_count, length-replicate)
 
 lending : (hand : List PointerOffset) (limit : ℕ) (g : Side) (asked : ℕ) (a : Result PointerOffset AllocationError) (n : Mem)
     → Allocates g.port.chunks.mem asked a n → Sound limit (lent g a n).port.chunks.mem → Fine hand g → Fine hand (lent g a n)
@@ -186,8 +139,7 @@ allotting hand limit g asked align r h (a, (n, _, al, _, e)) s k =
     subst (Fine hand) (sym e) (lending hand limit g asked a n al (subst (λ (x : Side). Sound limit x.port.chunks.mem) e s) k)
 
 pub goes : {A B C : Type 0} (t : Bool) → Goes t A B → (A → C) → (B → C) → C
-goes true w f g = f w
-goes false w f g = g w
+goes t h k w = search rules
 
 pub loaning : (hand : List PointerOffset) (limit : ℕ) (g : Side) (asked align : ℕ) (r : Result PointerOffset LoanError) (h : Side)
     → Loans g asked align r h → Sound limit h.port.chunks.mem → InOrder g.port.loans hand g → InOrder h.port.loans hand h

@@ -1,9 +1,9 @@
 -- How often a list of offsets has one.
-use Rattle.std.proofs.Common.{◌≡◌, ℕ, ◌+◌, ◌≤◌, true, false, cond, ◌||◌, eqb, List, [], ◌∷◌, ◌++◌, length, sym, refl, ap, ◌∙◌, ⊎_elim, arith}
+use Rattle.std.proofs.Common.{arith, rules, ◌≡◌, ℕ, ◌+◌, ◌≤◌, true, false, cond, ◌||◌, eqb, List, [], ◌∷◌, ◌++◌, length, sym, refl, ap, ◌∙◌, ⊎_elim}
 use Rattle.std.specs.Option.{option_to_list}
 use Rattle.std.proofs.lemmas.List.{length_push}
 use Rattle.std.proofs.lemmas.List.Sums.{sum_by-cons, sum_by-append}
-use Rattle.std.proofs.lemmas.Bool.{cases_Bool, eqb-true, or_parts, cond-true, cond-false, ltb-true, cond_both, false≢true}
+use Rattle.std.proofs.lemmas.Bool.{cases_Bool, eqb-true, or_parts, cond-true, cond-false, cond_both, false≢true}
 use Rattle.container.specs.Queue.{oldest, later, roomy, overflowed, has, without}
 use Rattle.elementary.specs.Ids.{same_chunk}
 use Rattle.elementary.specs.declared.pointer_offset.PointerOffset.{PointerOffset}
@@ -28,8 +28,7 @@ times_split [] o = refl
 times_split (x ∷ xs) o = omega (arith, times_cons x xs o, times_cons x [] o)
 
 pub later_short : (xs : List PointerOffset) (n : ℕ) → length xs ≤ n + 1 → length (later xs) ≤ n
-later_short [] n h = omega arith
-later_short (x ∷ xs) n h = omega arith
+later_short xs n h = search rules
 
 -- a list that has no such entry has it no time
 pub absent_times : (xs : List PointerOffset) (x : PointerOffset) → has same_chunk xs x ≡ false → times xs x.value ≡ 0
@@ -61,11 +60,7 @@ without_length (y ∷ ys) x n h =
 
 -- what a push with overflow leaves
 pub overflowed_length : (n : ℕ) (xs : List PointerOffset) (x : PointerOffset) → length xs ≤ n → length (overflowed n xs x) ≤ n
-overflowed_length n xs x h =
-    let p = length_push xs x in
-    cond_both (roomy n xs) (xs ++ x ∷ []) (later (xs ++ x ∷ [])) (λ zs. length zs ≤ n)
-    (λ yes. omega (arith, ltb-true (length xs) n yes))
-    (λ _. later_short (xs ++ x ∷ []) n (omega arith))
+overflowed_length n xs x h = grind (arith, length_push, later_short)
 
 pub overflowed_times : (n : ℕ) (xs : List PointerOffset) (x : PointerOffset) (o : ℕ) → times (overflowed n xs x) o ≤ times xs o + one x o
 overflowed_times n xs x o =
