@@ -227,10 +227,6 @@ pub record Creatable (end : End) (ps : Places) (d : LinkDetails) : Type 0 where
 pub creatable : (end : End) (ps : Places) (d : LinkDetails) → create_fault end ps d ≡ None → Creatable end ps d
 creatable end ps d e = search rules
 
--- a new link with one end
-never_fresh : (end : End) (d : LinkDetails) → never (standing end (fresh d)) ≡ true
-never_fresh end d = search rules
-
 proper_fresh : (end : End) (d : LinkDetails) → bad_buffer d ≡ false → bad_borrow d ≡ false → Proper (stepped end Attach (fresh d))
 proper_fresh end d b r = search rules
 
@@ -245,9 +241,6 @@ sound_joined end ps p k s e n =
 sound_made : (end : End) (ps : Places) (p : ℕ) (d : LinkDetails) → SoundBank ps → bad_buffer d ≡ false → bad_borrow d ≡ false → length ps ≤ first (connects d) ps
     → SoundBank (set ps p (Some (stepped end Attach (fresh d))))
 sound_made end ps p d s b r le = grind (arith, sound_set, proper_fresh, first_none)
-
-pub found_link : (d : LinkDetails) (x : Option Link) → connects d x ≡ true → (k : Link) × (x ≡ Some k)
-found_link d x h = search rules
 
 pub sound_created : (end : End) (ps : Places) (d : LinkDetails) (p : ℕ) → create_fault end ps d ≡ None → MayTake ps d p → SoundBank ps → SoundBank (created end ps d p)
 sound_created end ps d p e m s = grind (arith, nat_tests, first_found, sound_joined, sound_made)

@@ -1,9 +1,9 @@
 -- What an offset names: the segment and the bucket of a chunk, and the bytes that it has.
 use Rattle.std.proofs.Common.{rules, arith, ◌≡◌, ℕ, ◌+◌, ◌*◌, ◌/◌, ◌%◌, ◌^◌, ◌<◌, ◌≤◌, Bool, true, false, cond, List, length, get_or, set, Some, None, Option, sym, refl, ap, ◌∙◌, inl, inr, ⊎_elim, mul-div_cancel}
 use native.Mathlib.Nat.{mul-mod_left}
-use Rattle.std.proofs.lemmas.Nat.{row_fits_turned, div-add-mod', div-mul-add, mod-mul-add}
+use Rattle.std.proofs.lemmas.Nat.{row_fits_turned, div-mul-add, mod-mul-add}
 use Rattle.std.proofs.lemmas.Bool.{and_from, eq-eqb, lt-ltb, cases_order}
-use Rattle.elementary.specs.Ids.{packed, distance, segment}
+use Rattle.elementary.specs.Ids.{distance, segment}
 use Rattle.rules.specs.Memory.{Mem, Segment, Sound, segment_at, no_segment, home, bucket, is_chunk, offset_of, end_of, start_of, with_segments, remarked, Takes}
 use Rattle.rules.specs.Bytes.{place, room}
 use Rattle.rules.specs.Laws.{NoByteShared, WithinCapacity}
@@ -16,10 +16,6 @@ chunk_bucket gs o e = search rules
 
 pub chunk_there : (gs : List Segment) (o : ℕ) → is_chunk gs o ≡ true → segment o < length gs
 chunk_there gs o e = within gs (segment o) no_segment (λ none. omega (arith, (chunk_bucket gs o e).1, ap (λ (g : Segment). length g.taken) none))
-
--- an offset is its two parts
-pub unpacked : (o : ℕ) → packed (distance o) (segment o) ≡ o
-unpacked o = div-add-mod' o 256
 
 -- so two chunks of one segment and one bucket are one chunk
 pub same_bucket : (gs : List Segment) (o p : ℕ) → is_chunk gs o ≡ true → is_chunk gs p ≡ true → segment o ≡ segment p → bucket gs o ≡ bucket gs p → o ≡ p

@@ -1,27 +1,25 @@
 -- A new link, with the history that it gets, keeps a publisher in order.
-use Rattle.std.proofs.Common.{rules, arith, cond, ◌≡◌, ℕ, ◌+◌, ◌-◌, ◌<◌, ◌≤◌, true, false, ◌&&◌, eqb, ◌⊎◌, List, [], ◌∷◌, length, get_or, set, is_some, Some, None, Ok, Err, fold, Option, Result, sym, refl, ap, ◌∙◌, subst, ⊎_elim, MatchOption}
+use Rattle.std.proofs.Common.{rules, arith, cond, ◌≡◌, ℕ, ◌+◌, ◌-◌, ◌<◌, ◌≤◌, true, false, eqb, ◌⊎◌, List, [], ◌∷◌, length, get_or, set, is_some, Some, None, Ok, Err, fold, Option, Result, sym, refl, ap, ◌∙◌, subst, ⊎_elim, MatchOption}
 use Rattle.std.proofs.lemmas.Bool.Decides.{nat_tests}
 use Rattle.std.proofs.lemmas.List.Sums.{sum_by-take-drop, sum_by-set}
 use Rattle.std.proofs.lemmas.List.{get_or-set_same, get_or-set_other, length-set}
 use Rattle.std.proofs.lemmas.Bool.{cases_eq, cond-true, and_parts, eq-eqb, false≢true}
-use Rattle.elementary.specs.Ids.{same_port}
 use Rattle.elementary.specs.declared.port_id.PortId.{PortId}
 use Rattle.elementary.specs.declared.pointer_offset.PointerOffset.{PointerOffset}
 use Rattle.elementary.specs.declared.port_list.SubscriberDetails.{SubscriberDetails}
 use Rattle.elementary.specs.declared.link.LinkDetails.{LinkDetails}
-use Rattle.elementary.specs.declared.link.Standing.{Standing}
 use Rattle.elementary.specs.declared.link.Event.TheVariants.{Attach}
 use Rattle.elementary.specs.declared.link.End.TheVariants.{Sender}
 use Rattle.elementary.specs.declared.error.ZeroCopySendError.{ZeroCopySendError}
 use Rattle.elementary.specs.declared.error.ZeroCopyCreationError.{ZeroCopyCreationError}
 use Rattle.rules.specs.Pools.{by}
-use Rattle.rules.specs.Links.{Link, attached, never, next_standing, stepped, fresh, listed, times}
-use Rattle.rules.specs.Bank.{Places, at, sends, agree, connects, first, create_fault, MayTake, SafeBank}
+use Rattle.rules.specs.Links.{Link, attached, stepped, fresh, listed, times}
+use Rattle.rules.specs.Bank.{Places, at, sends, create_fault, MayTake, SafeBank}
 use Rattle.rules.specs.Publisher.{Connection, Side, slot_at, with_slots, wanted, connect_fault, taken_up, handed, last_of, connected, Connects, reclaimed_all}
 use Rattle.rules.specs.Books.{mine, held_here, held_by, owns, Wired, InOrder}
 use Rattle.rules.proofs.Offsets.{one, times_cons}
 use Rattle.rules.proofs.Banks.{creatable, first_found}
-use Rattle.rules.proofs.Safe.{safe_created, never_attached}
+use Rattle.rules.proofs.Safe.{safe_created}
 use Rattle.rules.proofs.Views.{own_details, none_held, foreign, not_mine, unmoved_set}
 use Rattle.rules.proofs.Passages.{Passage, Fits, shape_refl, passage_refl, passage_trans}
 use Rattle.rules.proofs.Reclaims.{reclaiming, reclaiming_passes, reclaimed_slots}
@@ -36,17 +34,6 @@ record Fresh (id : PortId) (d : LinkDetails) (x : Option Link) (l : Link) : Type
   empty : (o : ℕ) → times (listed l) o ≡ 0
   buffer : l.details.buffer_size ≡ d.buffer_size
   borrow : l.details.max_borrowed_samples ≡ d.max_borrowed_samples
-
-attach_never : (s : Standing) → never s ≡ true → attached (next_standing s Attach) ≡ true
-attach_never s h = search rules
-
-nobody's : (l : Link) → never l.sender_end ≡ true → (a : PortId) → owns a (Some l) ≡ false
-nobody's l e a = ap (λ b. b && same_port l.details.sender_port_id a) (never_attached l.sender_end e)
-
--- the settings of a link that is joined agree
-join_agrees : (ps : Places) (d : LinkDetails) (l : Link) → create_fault Sender ps d ≡ None → first (connects d) ps < length ps → at ps (first (connects d) ps) ≡ Some l
-    → agree l.details d ≡ true
-join_agrees ps d l e lt here = search rules
 
 newly : (id : PortId) (ps : Places) (d : LinkDetails) (q : ℕ) → d.sender_port_id ≡ id → SafeBank ps → create_fault Sender ps d ≡ None → MayTake ps d q
     → Fresh id d (at ps q) (stepped Sender Attach (by (at ps q) (fresh d) (λ k. k)))

@@ -1,14 +1,13 @@
 -- What a cycle does to the slots keeps a publisher in order.
-use Rattle.std.proofs.Common.{◌≡◌, ℕ, ◌+◌, ◌-◌, ◌^◌, ltb, List, length, get_or, set, is_some, Some, None, Option, sym, refl, ap, ◌∙◌, subst, ⊎_elim, arith}
+use Rattle.std.proofs.Common.{rules, ◌≡◌, ℕ, ◌+◌, ◌-◌, ◌^◌, ltb, List, length, get_or, set, Some, None, Option, sym, refl, ap, ◌∙◌, subst, ⊎_elim}
 use Rattle.std.specs.Option.{option_map}
 use Rattle.std.proofs.lemmas.List.{length-set, length-map}
-use Rattle.std.proofs.lemmas.Bool.{cases_Bool, cond-true, cond-false, false≢true}
+use Rattle.std.proofs.lemmas.Bool.{cases_Bool, cond-true, cond-false}
 use Rattle.std.proofs.Math.ListN.{get_or-map}
 use Rattle.elementary.specs.declared.pointer_offset.PointerOffset.{PointerOffset}
-use Rattle.rules.specs.Pools.{by}
-use Rattle.rules.specs.Bank.{Places, at}
+use Rattle.rules.specs.Bank.{Places}
 use Rattle.rules.specs.Publisher.{Connection, Pub, Side, slot_at, tagged, tag_slot, begun, is_stale, Sweeps, swept, visited}
-use Rattle.rules.specs.Books.{owns, Wired, InOrder, beside}
+use Rattle.rules.specs.Books.{Wired, InOrder, beside}
 use Rattle.rules.proofs.Lists.{set_each}
 use Rattle.rules.proofs.Lends.{goes}
 use Rattle.rules.proofs.Removes.{removing}
@@ -19,28 +18,14 @@ abbrev places : Option Connection → Option ℕ
 places x = option_map (λ (c : Connection). c.place) x
 
 found : (x : Option Connection) (n : ℕ) → places x ≡ Some n → (d : Connection) × (x ≡ Some d) × (d.place ≡ n)
-found None n e = absurd (false≢true (ap is_some e))
-found (Some d) n e = (d, refl, ap (λ y. by y 0 (λ k. k)) e)
+found x n h = search rules
 
 -- slots that differ by tags alone are wired alike
 retagged : (p q : Pub) (ps : Places) → q.id ≡ p.id → length q.slots ≡ length p.slots → ((j : ℕ) → places (slot_at q j) ≡ places (slot_at p j)) → Wired p ps → Wired q ps
-retagged p q ps id long same w =
-    let back : (j : ℕ) (c : Connection) → slot_at q j ≡ Some c → (d : Connection) × (slot_at p j ≡ Some d) × (d.place ≡ c.place)
-    = λ j c e. found (slot_at p j) c.place (sym (same j) ∙ ap places e) in
-    record {
-      own = λ j c e. let b = back j c e in ap (λ x. owns x (at ps c.place)) id ∙ (ap (λ k. owns p.id (at ps k)) (sym b.2) ∙ w.own j b.0 b.1);
-      apart = λ i j c d a b. let x = back i c a in
-          let y = back j d b in
-          λ e. w.apart i j x.0 y.0 x.1 y.1 (x.2 ∙ (e ∙ sym y.2));
-      cover = λ j e. let f = w.cover j (sym (ap (λ x. owns x (at ps j)) id) ∙ e) in
-          let b = found (slot_at q f.0) f.1.0.place (same f.0 ∙ ap places f.1.1) in
-          (f.0, (b.0, b.1, b.2 ∙ f.1.2));
-      few = omega (arith, long, w.few);
-    }
+retagged p q ps id long same w = search rules
 
 tag_places : (n : ℕ) (x : Option Connection) → places (option_map (tagged n) x) ≡ places x
-tag_places n None = refl
-tag_places n (Some c) = refl
+tag_places n x = search rules
 
 -- the books do not look at slots, tags and lists
 pub tagging : (loans hand : List PointerOffset) (g : Side) (i : ℕ) → InOrder loans hand g → InOrder loans hand (beside g (tag_slot g.port i))

@@ -13,7 +13,7 @@ use Rattle.elementary.specs.declared.error.ZeroCopyCreationError.{ZeroCopyCreati
 use Rattle.rules.specs.Pools.{by}
 use Rattle.rules.specs.Bank.{Goes, Places, receives, received, given_back, MayTake, created, detached, receive_at, release_at, has_data}
 use Rattle.rules.specs.Publisher.{first_of}
-use Rattle.rules.specs.Subscriber.{Stored, Half, with_links, with_expired, key_at, stored_at, has_borrows, dropped, victim, struck, has_room, room_made, listed, busy, key_prepared, prepared, prepare_fault, begun, tag_slot, has_peer, wanted, has_key, stored_new, made_at, MakesBy, Makes, link_fault, Enters, entry_fault, stops, is_stale, taken_out, visited, visit_fault, swept, finished, Cycles, Updates, Translation, left, asks, asked, Way, gives, drops, ends, Walk, passed, walk, Walked, onward, walks, expired_walk, Served, served, serve, receive_after, over, release_after, ends_detached}
+use Rattle.rules.specs.Subscriber.{Stored, Half, with_links, with_expired, key_at, stored_at, has_borrows, dropped, victim, struck, has_room, room_made, listed, busy, key_prepared, prepared, prepare_fault, tag_slot, has_peer, wanted, has_key, stored_new, made_at, MakesBy, Makes, link_fault, Enters, entry_fault, stops, is_stale, taken_out, visited, visit_fault, swept, finished, Cycles, Updates, Translation, left, asks, asked, Way, gives, drops, ends, Walk, passed, walk, Walked, onward, walks, expired_walk, Served, served, serve, receive_after, over, release_after, ends_detached}
 use Rattle.rules.specs.Holdings.{Stirred, NothingTakenAway, OnlyStirred}
 use Rattle.rules.proofs.Holdings.{stir_refl, stir_trans, stir_moved, stir_detached, stir_created, stir_turned}
 
@@ -172,9 +172,6 @@ stir_cycles (e ∷ es) s p r t w =
         → (Cycles w.0 es (first_of p (entry_fault s e)) r t → Stirred w.0.links t.links) → Stirred w.0.links t.links
     go true v h = half_like w.0.links w.0 t v.1 (stir_refl w.0.links)
     go false v h = h v
-
-stir_begun : (s : Half) (n : ℕ) → Stirred s.links (begun s n).links
-stir_begun s n = half_cond s.links _ _ _ (stir_refl s.links) (stir_refl s.links)
 
 stir_updates : (known : PortId → Bool) (s : Half) (n : ℕ) (es : List PublisherDetails) (r : Option UpdateError) (t : Half) → Updates known s n es r t → Stirred s.links t.links
 stir_updates known s n es r t w = grind (arith, stir_cycles)

@@ -1,21 +1,14 @@
 -- Where no sender was ever attached, nothing was ever sent: every call keeps it so.
-use Rattle.std.proofs.Common.{◌≡◌, ℕ, ◌+◌, ◌≤◌, Bool, true, false, cond, ◌&&◌, ltb, List, [], ◌∷◌, ◌++◌, length, set, is_some, is_ok, Some, None, Err, fold, Option, sym, refl, ap, ◌∙◌, subst, ⊎_elim, arith}
-use Rattle.std.specs.Option.{option_to_list}
-use Rattle.std.proofs.lemmas.Bool.{and_right, cond-true, cond-false, cond_both, false≢true}
-use Rattle.container.specs.Queue.{oldest, later, has}
-use Rattle.elementary.specs.Ids.{same_chunk}
+use Rattle.std.proofs.Common.{rules, ◌≡◌, ℕ, ◌+◌, ◌≤◌, Bool, true, false, List, [], ◌∷◌, length, set, Some, None, fold, Option, sym, refl, ◌∙◌, subst, ⊎_elim, arith}
+use Rattle.std.proofs.lemmas.Bool.{cond-false, cond_both}
 use Rattle.elementary.specs.declared.pointer_offset.PointerOffset.{PointerOffset}
 use Rattle.elementary.specs.declared.link.LinkDetails.{LinkDetails}
 use Rattle.elementary.specs.declared.link.End.{End}
-use Rattle.elementary.specs.declared.link.End.TheVariants.{Sender, Receiver}
 use Rattle.elementary.specs.declared.link.Event.TheVariants.{Attach, Detach}
 use Rattle.elementary.specs.declared.link.Standing.{Standing}
-use Rattle.elementary.specs.declared.link.Standing.TheVariants.{NeverAttached, Attached, Gone}
 use Rattle.elementary.specs.declared.link.Mark.{Mark}
-use Rattle.elementary.specs.declared.error.ZeroCopySendError.TheVariants as sending
-use Rattle.elementary.specs.declared.error.ZeroCopyReleaseError.TheVariants as releasing
 use Rattle.rules.specs.Pools.{by}
-use Rattle.rules.specs.Links.{Link, Proper, times, attached, never, next_standing, stepped, fresh, can_borrow, most_returned, send_answer, send_after, reclaim_after, receive_after, release_fault, release_after}
+use Rattle.rules.specs.Links.{Link, Proper, times, attached, never, stepped, fresh, most_returned, send_after, reclaim_after, receive_after, release_after}
 use Rattle.rules.specs.Bank.{Places, at, changed, sent, reclaimed, create_fault, MayTake, created, detached, Move, receive_at, release_at, moved, Turned, with_mark, SetsMark, SoundBank, Unsent, SafeBank, StaysSound, StaysSafe}
 use Rattle.rules.specs.Publisher.{cleared}
 use Rattle.rules.proofs.Banks.{proper_lists, before, changed_at, set_place, left_of, marking_by, sound_changed, sound_sent, sound_reclaimed, sound_moved, sound_created, sound_detached, stays_sound}
@@ -23,15 +16,10 @@ use Rattle.rules.proofs.Banks.{proper_lists, before, changed_at, set_place, left
 -- ONE LINK
 
 pub never_attached : (s : Standing) → never s ≡ true → attached s ≡ false
-never_attached NeverAttached e = refl
-never_attached Attached e = absurd (false≢true e)
-never_attached Gone e = absurd (false≢true e)
+never_attached s h = search rules
 
 unsent_send : (o : PointerOffset) (l : Link) → Unsent l → Unsent (send_after l o)
-unsent_send o l u n =
-    let k = u n in
-    let no : is_ok (send_answer l o) ≡ false = ap is_ok (cond-false (attached l.sender_end) _ (Err sending.NotConnected) (never_attached l.sender_end n)) in
-    (cond-false _ _ _ no ∙ k.0, k.1, k.2)
+unsent_send o l h = search rules
 
 unsent_reclaim : (l : Link) → Unsent l → Unsent (reclaim_after l)
 unsent_reclaim l u n = let k = u n in (k.0, k.1, cond-false _ _ _ (never_attached l.sender_end n) ∙ k.2)
@@ -40,41 +28,17 @@ unsent_cleared : (l : Link) → Unsent l → Unsent (cleared l)
 unsent_cleared l u n = let k = u n in (k.0, k.1, cond-false _ _ _ (never_attached l.sender_end n) ∙ k.2)
 
 unsent_receive : (l : Link) → Unsent l → Unsent (receive_after l)
-unsent_receive l u n = let k = u n in (waits (attached l.receiver_end && can_borrow l) k.0, lends (attached l.receiver_end && can_borrow l) k.0 k.1, k.2)
-  where
-    waits : (b : Bool) → l.waiting ≡ [] → cond b (later l.waiting) l.waiting ≡ []
-    waits true e = ap later e
-    waits false e = e
-
-    lends : (b : Bool) → l.waiting ≡ [] → l.borrowed ≡ [] → cond b (l.borrowed ++ option_to_list (oldest l.waiting)) l.borrowed ≡ []
-    lends true e f = ap (λ x. x ++ option_to_list (oldest l.waiting)) f ∙ ap (λ x. option_to_list (oldest x)) e
-    lends false e f = f
+unsent_receive l h = search rules
 
 unsent_release : (o : PointerOffset) (l : Link) → Unsent l → Unsent (release_after l o)
-unsent_release o l u n =
-    let k = u n in
-    let none : (attached l.receiver_end && has same_chunk l.borrowed o) ≡ false = ap (λ x. attached l.receiver_end && has same_chunk x o) k.1 ∙ and_right (attached l.receiver_end) false refl in
-    let fault : is_some (release_fault l o) ≡ true = ap is_some (cond-false _ (cond (ltb (length l.returned) (most_returned l)) None (Some releasing.RetrieveBufferFull)) (Some releasing.NotBorrowed) none) in
-    (k.0, cond-true _ _ _ fault ∙ k.1, cond-true _ _ _ fault ∙ k.2)
+unsent_release o l h = search rules
 
 -- an end that comes or goes changes no list, and no sender end becomes one that never was
 unsent_detached : (end : End) (l : Link) → Unsent l → Unsent (stepped end Detach l)
-unsent_detached Receiver l u n = u n
-unsent_detached Sender l u n = u (back l.sender_end n)
-  where
-    back : (s : Standing) → never (next_standing s Detach) ≡ true → never s ≡ true
-    back NeverAttached e = refl
-    back Attached e = absurd (false≢true e)
-    back Gone e = absurd (false≢true e)
+unsent_detached end l h = search rules
 
 unsent_attached : (end : End) (l : Link) → Unsent l → Unsent (stepped end Attach l)
-unsent_attached Receiver l u n = u n
-unsent_attached Sender l u n = absurd (ever l.sender_end n)
-  where
-    ever : (s : Standing) → never (next_standing s Attach) ≡ true → ⊥
-    ever NeverAttached e = false≢true e
-    ever Attached e = false≢true e
-    ever Gone e = false≢true e
+unsent_attached end l h = search rules
 
 -- THE BANK
 
@@ -87,10 +51,7 @@ safe_changed ps i f keep sound s = record {
 }
 
 safe_set : (ps : Places) (i : ℕ) (x : Option Link) → ((l : Link) → x ≡ Some l → Unsent l) → (SoundBank ps → SoundBank (set ps i x)) → SafeBank ps → SafeBank (set ps i x)
-safe_set ps i x keep sound s = record {
-  sound = sound s.sound;
-  unsent = λ j l e. ⊎_elim (λ y. keep l y.1) (λ y. s.unsent j l y) (set_place ps i x j l e);
-}
+safe_set ps i x keep sound s = search (rules, set_place)
 
 pub safe_sent : (ps : Places) (i : ℕ) (o : PointerOffset) → SafeBank ps → SafeBank (sent ps i o)
 safe_sent ps i o = safe_changed ps i (λ l. send_after l o) (unsent_send o) (sound_sent ps i o)
