@@ -1,12 +1,12 @@
 -- Every call keeps a bank sound.
-use Rattle.std.proofs.Common.{rules, arith, ◌≡◌, ℕ, ◌+◌, ◌<◌, ◌≤◌, Bool, true, false, cond, ◌&&◌, ◌⊎◌, List, [], ◌∷◌, ◌++◌, length, set, is_some, is_ok, Some, None, Err, fold, Option, sym, refl, ap, ◌∙◌, subst, inl, inr, ⊎_elim}
+use Rattle.std.proofs.Common.{rules, arith, true, false, Bool, cond, ◌≡◌, ℕ, ◌+◌, ◌<◌, ◌≤◌, ◌&&◌, ◌⊎◌, List, [], ◌∷◌, ◌++◌, length, set, is_some, is_ok, Some, None, Err, fold, Option, sym, refl, ap, ◌∙◌, subst, ⊎_elim}
 use Rattle.std.specs.List.{position_or_len}
 use Rattle.std.specs.Option.{option_to_list}
 use Rattle.std.proofs.lemmas.Bool.Decides.{nat_tests}
 use Rattle.std.proofs.lemmas.List.{get_or_past, length-append, length_push}
 use Rattle.std.proofs.lemmas.List.Sums.{passes_at_first, fails_before_first}
 use Rattle.std.proofs.lemmas.List.Recursion.{is_position_or_len}
-use Rattle.std.proofs.lemmas.Bool.{cases_eq, cases_lt, and_parts, or_parts, cond_both, cond-true, cond-false, ltb-true, eq-eqb, ne_eqb}
+use Rattle.std.proofs.lemmas.Bool.{and_parts, or_parts, cond_both, ltb-true}
 use Rattle.container.specs.Queue.{oldest, later, overflowed, has, without}
 use Rattle.elementary.specs.Ids.{same_chunk}
 use Rattle.elementary.specs.declared.link.Event.{Event}
@@ -21,7 +21,7 @@ use Rattle.rules.specs.Pools.{by}
 use Rattle.rules.specs.Links.{Link, Proper, attached, never, standing, stepped, alive, fresh, listed, lists, times, with_lists, marked_send, send_answer, send_after, reclaim_after, can_borrow, receive_after, release_fault, release_after, most_returned}
 use Rattle.rules.specs.Bank.{Places, at, changed, sent, reclaimed, first, between, connects, bad_buffer, bad_borrow, create_fault, MayTake, created, kept, detached, Move, receive_at, release_at, moved, Turned, with_mark, SetsMark, SoundBank, Lasts}
 use Rattle.rules.proofs.Lists.{set_cases}
-use Rattle.rules.proofs.Offsets.{one, times_append, times_push, times_split, later_short, absent_times, without_times, without_length, overflowed_length, overflowed_times}
+use Rattle.rules.proofs.Offsets.{times_append, times_push, times_split, later_short, absent_times, without_times, without_length, overflowed_length, overflowed_times}
 
 -- LISTS OF A LINK
 
@@ -32,15 +32,7 @@ listed_times l o = omega (arith, times_append l.waiting (l.borrowed ++ l.returne
 -- a link with other lists is proper if they are short enough and no offset comes more often
 pub proper_lists : (l : Link) (w b r : List PointerOffset) → Proper l → length w ≤ l.details.buffer_size → length b ≤ l.details.max_borrowed_samples → length r ≤ most_returned l
     → ((o : ℕ) → times w o + (times b o + times r o) ≤ 1) → Proper (with_lists l w b r)
-proper_lists l w b r p hw hb hr once = record {
-  buffer = p.buffer;
-  borrow = p.borrow;
-  waiting = hw;
-  borrowed = hb;
-  returned = hr;
-  once = λ o. omega (arith, listed_times (with_lists l w b r) o, once o);
-  live = p.live;
-}
+proper_lists l w b r p hw hb hr once = search (rules, listed_times)
 
 pub before : (l : Link) → Proper l → (o : ℕ) → times l.waiting o + (times l.borrowed o + times l.returned o) ≤ 1
 before l p o = omega (arith, p.once o, listed_times l o)
@@ -58,15 +50,7 @@ sent_once : (l : Link) (o : PointerOffset) (p : ℕ) → Proper l → lists l o 
 sent_once l o p proper e =
     let a = or_parts _ _ e in
     let b = or_parts _ _ a.1 in
-    let f = overflowed_times l.details.buffer_size l.waiting o p in
-    ⊎_elim
-    (λ same. let z : ◌≡◌ {A = ℕ} (one o p) 1 = cond-true _ _ _ (eq-eqb _ _ same) in
-    let w : times l.waiting p ≡ 0 = ap (times l.waiting) (sym same) ∙ absent_times l.waiting o a.0 in
-    let x : times l.borrowed p ≡ 0 = ap (times l.borrowed) (sym same) ∙ absent_times l.borrowed o b.0 in
-    let y : times l.returned p ≡ 0 = ap (times l.returned) (sym same) ∙ absent_times l.returned o b.1 in
-    omega arith)
-    (λ other. let z : ◌≡◌ {A = ℕ} (one o p) 0 = cond-false _ _ _ (ne_eqb _ _ other) in omega (arith, f, z, before l proper p))
-    (cases_eq o.value p)
+    grind (arith, nat_tests, overflowed_times l.details.buffer_size l.waiting o p, absent_times l.waiting o a.0, absent_times l.borrowed o b.0, absent_times l.returned o b.1, before l proper p)
 
 proper_send : (l : Link) (o : PointerOffset) → Proper l → Proper (send_after l o)
 proper_send l o p =
@@ -160,7 +144,7 @@ between_sym : (d e : LinkDetails) → between d e ≡ true → between e d ≡ t
 between_sym d e b = search rules
 
 pub set_place : (ps : Places) (i : ℕ) (x : Option Link) (j : ℕ) (l : Link) → at (set ps i x) j ≡ Some l → ((j ≡ i) × (x ≡ Some l)) ⊎ (at ps j ≡ Some l)
-set_place ps i x j l e = ⊎_elim (λ new. inl (new.0, sym new.1 ∙ e)) (λ old. inr (sym old.1 ∙ e)) (set_cases ps i x None j)
+set_place ps i x j l e = search (rules, set_cases)
 
 -- events change neither lists nor details
 event_details : (end : End) (e : Event) (l : Link) → (stepped end e l).details ≡ l.details
@@ -211,8 +195,7 @@ pub first_found : (t : Option Link → Bool) (ps : Places) → first t ps < leng
 first_found t ps h = let e = is_first t ps in ap (λ n. t (at ps n)) e ∙ passes_at_first t ps None (omega (arith, e))
 
 pub first_none : (t : Option Link → Bool) (ps : Places) → t None ≡ false → length ps ≤ first t ps → (j : ℕ) → t (at ps j) ≡ false
-first_none t ps n h j =
-    ⊎_elim (λ lt. fails_before_first t ps j None (omega (arith, is_first t ps))) (λ past. ap t (get_or_past ps j None past) ∙ n) (cases_lt j (length ps))
+first_none t ps n h j = search (rules, is_first, fails_before_first, get_or_past)
 
 -- an end that was never attached is attached now
 attach_alive : (end : End) (l : Link) → never (standing end l) ≡ true → alive (stepped end Attach l) ≡ true

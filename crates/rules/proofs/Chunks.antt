@@ -1,8 +1,8 @@
 -- What an offset names: the segment and the bucket of a chunk, and the bytes that it has.
-use Rattle.std.proofs.Common.{rules, arith, ◌≡◌, ℕ, ◌+◌, ◌*◌, ◌/◌, ◌%◌, ◌^◌, ◌<◌, ◌≤◌, Bool, true, false, cond, List, length, get_or, set, Some, None, Option, sym, refl, ap, ◌∙◌, inl, inr, ⊎_elim, mul-div_cancel}
+use Rattle.std.proofs.Common.{rules, arith, true, false, cond, ◌≡◌, ℕ, ◌+◌, ◌*◌, ◌^◌, ◌<◌, ◌≤◌, List, length, get_or, set, Some, None, Option, ap, mul-div_cancel}
 use native.Mathlib.Nat.{mul-mod_left}
+use Rattle.std.proofs.lemmas.Bool.Decides.{nat_tests}
 use Rattle.std.proofs.lemmas.Nat.{row_fits_turned, div-mul-add, mod-mul-add}
-use Rattle.std.proofs.lemmas.Bool.{and_from, eq-eqb, lt-ltb, cases_order}
 use Rattle.elementary.specs.Ids.{distance, segment}
 use Rattle.rules.specs.Memory.{Mem, Segment, Sound, segment_at, no_segment, home, bucket, is_chunk, offset_of, end_of, start_of, with_segments, remarked, Takes}
 use Rattle.rules.specs.Bytes.{place, room}
@@ -24,17 +24,7 @@ same_bucket gs o p co cp s b = search rules
 -- every bucket has an offset that names it
 pub named : (gs : List Segment) (s b : ℕ) → s < 256 → 0 < (segment_at gs s).size → b < length (segment_at gs s).taken
     → (segment (offset_of gs s b) ≡ s) × (bucket gs (offset_of gs s b) ≡ b) × (is_chunk gs (offset_of gs s b) ≡ true)
-named gs s b h pos lt =
-    let z = (segment_at gs s).size in
-    let es : segment (offset_of gs s b) ≡ s = mod-mul-add (b * z) 256 s h in
-    let ed : distance (offset_of gs s b) ≡ b * z = div-mul-add (b * z) 256 s h in
-    let eh : home gs (offset_of gs s b) ≡ segment_at gs s = ap (segment_at gs) es in
-    let eb : bucket gs (offset_of gs s b) ≡ b =
-    ap (λ (g : Segment). distance (offset_of gs s b) / g.size) eh ∙ (ap (λ d. d / z) ed ∙ mul-div_cancel b pos) in
-    let em : distance (offset_of gs s b) % (home gs (offset_of gs s b)).size ≡ 0 =
-    ap (λ (g : Segment). distance (offset_of gs s b) % g.size) eh ∙ (ap (λ d. d % z) ed ∙ mul-mod_left b z) in
-    let en = ap (λ (g : Segment). length g.taken) eh in
-    (es, eb, and_from _ _ (eq-eqb _ _ em) (lt-ltb _ _ (omega arith)))
+named gs s b h pos lt = grind (arith, nat_tests, mod-mul-add, div-mul-add, mul-div_cancel, mul-mod_left)
 
 -- a bucket ends within its segment
 pub chunk_within : (m : Mem) (o : ℕ) → is_chunk m.segments o ≡ true → place m o + room m o ≤ end_of (home m.segments o)
@@ -53,18 +43,7 @@ before m o p co cp s lt = search rules
 
 pub no_byte_shared : NoByteShared
 no_byte_shared limit m o p sound co cp ne =
-    let gs = m.segments in
-    let wo = chunk_within m o co in
-    let wp = chunk_within m p cp in
-    ⊎_elim
-    (λ same. ⊎_elim
-    (λ b. absurd (ne (same_bucket gs o p co cp same b)))
-    (⊎_elim (λ lt. inl (before m o p co cp same lt)) (λ gt. inr (before m p o cp co (sym same) gt)))
-    (cases_order (bucket gs o) (bucket gs p)))
-    (⊎_elim
-    (λ lt. ⊎_elim (λ a. inl (omega arith)) (λ a. inr (omega arith)) (sound.apart (segment o) (segment p) lt (chunk_there gs p cp)))
-    (λ gt. ⊎_elim (λ a. inr (omega arith)) (λ a. inl (omega arith)) (sound.apart (segment p) (segment o) gt (chunk_there gs o co))))
-    (cases_order (segment o) (segment p))
+    grind (arith, chunk_within, same_bucket, before, chunk_there, sound.apart (segment o) (segment p), sound.apart (segment p) (segment o))
 
 -- a segment's start is a small number
 pub start_low : (limit : ℕ) (m : Mem) (s x : ℕ) → Sound limit m → Some x ≡ start_of m.segments s → x < 2 ^ 63
@@ -73,13 +52,7 @@ start_low limit m s x sound e = search rules
 -- what a search for a chunk's bytes found lies within the capacity
 pub located : (limit : ℕ) (m : Mem) (o start size : ℕ) → Sound limit m
     → ◌≡◌ {A = Option (ℕ × ℕ)} (Some (start, size)) (cond (is_chunk m.segments o) (Some (place m o, room m o)) None) → start + size ≤ m.capacity
-located limit m o start size sound e = go (is_chunk m.segments o) refl e
-  where
-    go : (b : Bool) → is_chunk m.segments o ≡ b → ◌≡◌ {A = Option (ℕ × ℕ)} (Some (start, size)) (cond b (Some (place m o, room m o)) None) → start + size ≤ m.capacity
-    go true c f =
-        let both : ◌≡◌ {A = ℕ × ℕ} (start, size) (place m o, room m o) = cc in
-        omega (arith, within_capacity limit m o sound c, ap (λ (x : ℕ × ℕ). x.0) both, ap (λ (x : ℕ × ℕ). x.1) both)
-    go false c f = let z : ◌≡◌ {A = ℕ} 0 1 = cc in absurd (omega arith)
+located limit m o start size sound e = grind (arith, within_capacity limit m o sound)
 
 -- to take the free bucket b of segment s
 pub takes_bucket : (m n : Mem) (asked s b : ℕ) → s < 256 → 0 < (segment_at m.segments s).size → b < length (segment_at m.segments s).taken

@@ -1,5 +1,5 @@
 -- A new link, with the history that it gets, keeps a publisher in order.
-use Rattle.std.proofs.Common.{rules, arith, cond, ◌≡◌, ℕ, ◌+◌, ◌-◌, ◌<◌, ◌≤◌, true, false, eqb, ◌⊎◌, List, [], ◌∷◌, length, get_or, set, is_some, Some, None, Ok, Err, fold, Option, Result, sym, refl, ap, ◌∙◌, subst, ⊎_elim, MatchOption}
+use Rattle.std.proofs.Common.{rules, arith, true, false, cond, ◌≡◌, ℕ, ◌+◌, ◌-◌, ◌<◌, ◌≤◌, eqb, ◌⊎◌, List, [], ◌∷◌, length, get_or, set, is_some, Some, None, Ok, Err, fold, Option, Result, sym, refl, ap, ◌∙◌, subst, ⊎_elim, MatchOption}
 use Rattle.std.proofs.lemmas.Bool.Decides.{nat_tests}
 use Rattle.std.proofs.lemmas.List.Sums.{sum_by-take-drop, sum_by-set}
 use Rattle.std.proofs.lemmas.List.{get_or-set_same, get_or-set_other, length-set}
@@ -20,7 +20,7 @@ use Rattle.rules.specs.Books.{mine, held_here, held_by, owns, Wired, InOrder}
 use Rattle.rules.proofs.Offsets.{one, times_cons}
 use Rattle.rules.proofs.Banks.{creatable, first_found}
 use Rattle.rules.proofs.Safe.{safe_created}
-use Rattle.rules.proofs.Views.{own_details, none_held, foreign, not_mine, unmoved_set}
+use Rattle.rules.proofs.Views.{none_held, foreign, not_mine, unmoved_set}
 use Rattle.rules.proofs.Passages.{Passage, Fits, shape_refl, passage_refl, passage_trans}
 use Rattle.rules.proofs.Reclaims.{reclaiming, reclaiming_passes, reclaimed_slots}
 use Rattle.rules.proofs.Posts.{Posted, posted}
@@ -52,14 +52,8 @@ slot_now xs i c j d lt e = search rules
 wire_joined : (g : Side) (i : ℕ) (c : Connection) (l : Link) → i < length g.port.slots → c.place < length g.links → slot_at g.port i ≡ None
     → ((a : PortId) → owns a (at g.links c.place) ≡ false) → mine g.port.id l ≡ true → Wired g.port g.links → Wired (joined_at g i c l).port (joined_at g i c l).links
 wire_joined g i c l lt within vacant was now w = record {
-  own = λ j d e. ⊎_elim
-      (λ same. ap (λ (x : Connection). owns id (at qs x.place)) same.1 ∙ (ap (owns id) (get_or-set_same ps q (Some l) None within) ∙ now))
-      (λ old. ap (owns id) (get_or-set_other ps q d.place (Some l) None (elsewhere j d old.1)) ∙ w.own j d old.1)
-      (slot_now xs i c j d lt e);
-  apart = λ j k d f a b e. ⊎_elim
-      (λ x. ⊎_elim (λ y. x.0 ∙ sym y.0) (λ y. absurd (elsewhere k f y.1 (sym e ∙ ap (λ (z : Connection). z.place) x.1))) (slot_now xs i c k f lt b))
-      (λ x. ⊎_elim (λ y. absurd (elsewhere j d x.1 (e ∙ ap (λ (z : Connection). z.place) y.1))) (λ y. w.apart j k d f x.1 y.1 e) (slot_now xs i c k f lt b))
-      (slot_now xs i c j d lt a);
+  own = λ j d e. grind (arith, slot_now xs i c j d lt e, get_or-set_same ps q (Some l) None within, get_or-set_other ps q d.place (Some l) None, elsewhere j d, w.own j d, now);
+  apart = λ j k d f a b e. grind (arith, slot_now xs i c j d lt a, slot_now xs i c k f lt b, elsewhere k f, elsewhere j d, w.apart j k d f);
   cover = λ j e. ⊎_elim
       (λ same. (i, (c, get_or-set_same xs i (Some c) None lt, sym same)))
       (λ other. let f = w.cover j (ap (owns id) (sym (get_or-set_other ps q j (Some l) None other)) ∙ e) in
@@ -128,14 +122,7 @@ join_passes g i c d l within f safe small limit = record {
     q = c.place
 
     fits : Fits g.port ps → Fits (joined_at g i c l).port (set ps q (Some l))
-    fits h j e is = ⊎_elim
-        (λ same. let own : own_details g.port.id (at (set ps q (Some l)) j) ≡ Some l.details
-        = ap (λ k. own_details g.port.id (at (set ps q (Some l)) k)) same ∙ (ap (own_details g.port.id) (get_or-set_same ps q (Some l) None within) ∙ cond-true _ _ _ f.now) in
-        let it : e ≡ l.details = cc in
-        let b : e.buffer_size ≡ d.buffer_size = ap (λ (x : LinkDetails). x.buffer_size) it ∙ f.buffer in
-        (omega (arith, b, small), ap (λ (x : LinkDetails). x.max_borrowed_samples) it ∙ (f.borrow ∙ limit)))
-        (λ other. h j e (ap (own_details g.port.id) (sym (get_or-set_other ps q j (Some l) None other)) ∙ is))
-        (cases_eq j q)
+    fits h j e is = grind (arith, get_or-set_same ps q (Some l) None within, get_or-set_other ps q j (Some l) None, f.now, f.buffer, f.borrow, h j e, small, limit)
 
 -- THE HISTORY HANDED ON
 

@@ -1,7 +1,8 @@
 -- A send keeps a publisher in order.
-use Rattle.std.proofs.Common.{rules, ◌≡◌, ℕ, suc, ◌+◌, ◌<◌, ◌≤◌, Bool, true, false, cond, eqb, List, [], ◌∷◌, ◌++◌, get_or, Some, None, Ok, Err, Option, Result, sym, refl, ap, ◌∙◌, subst, ⊎_elim, arith}
+use Rattle.std.proofs.Common.{rules, arith, true, false, Bool, cond, ◌≡◌, ℕ, suc, ◌+◌, ◌<◌, ◌≤◌, eqb, List, [], ◌∷◌, ◌++◌, get_or, Some, None, Ok, Err, Option, Result, sym, refl, ap, ◌∙◌, subst}
 use Rattle.std.specs.Option.{option_to_list}
-use Rattle.std.proofs.lemmas.Bool.{cases_eq, cond-true, cond-false, eq-eqb, ne_eqb, false≢true}
+use Rattle.std.proofs.lemmas.Bool.Decides.{nat_tests}
+use Rattle.std.proofs.lemmas.Bool.{cond-true, cond-false, eq-eqb, false≢true}
 use Rattle.container.specs.Queue.{without, overflowed, evicted}
 use Rattle.elementary.specs.Ids.{same_chunk}
 use Rattle.elementary.specs.declared.pointer_offset.PointerOffset.{PointerOffset}
@@ -117,12 +118,7 @@ entered loans hand p ps n o absent k = record {
   balance = λ x. omega (arith, k.balance x, times_cons o hand x, times_append (option_to_list (evicted n p.history o)) hand x, overflowed_evicted n p.history o x);
   free = k.free;
   alone = k.alone;
-  once = λ x. ⊎_elim
-      (λ same. let z : ◌≡◌ {A = ℕ} (one o x) 1 = cond-true _ _ _ (eq-eqb o.value x same) in
-      omega (arith, overflowed_times n p.history o x, z, absent, ap (times p.history) same))
-      (λ other. let z : ◌≡◌ {A = ℕ} (one o x) 0 = cond-false _ _ _ (ne_eqb o.value x other) in
-      omega (arith, overflowed_times n p.history o x, z, k.once x))
-      (cases_eq o.value x);
+  once = λ x. grind (arith, nat_tests, overflowed_times n p.history o x, absent, k.once x);
 }
 
 if_history : (p : Pub) (e : Option PointerOffset) → (let_go_if p e).history ≡ p.history

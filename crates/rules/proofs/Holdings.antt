@@ -1,5 +1,5 @@
 -- The calls of a receiver end leave what a link holds for its sender.
-use Rattle.std.proofs.Common.{arith, rules, ◌≡◌, ℕ, ◌+◌, Bool, true, false, cond, ◌&&◌, List, [], ◌∷◌, ◌++◌, set, is_some, Some, None, fold, Option, sym, refl, ap, ◌∙◌, subst}
+use Rattle.std.proofs.Common.{rules, arith, true, false, Bool, cond, ◌≡◌, ℕ, ◌+◌, ◌&&◌, List, [], ◌∷◌, ◌++◌, set, is_some, Some, None, fold, Option, sym, refl, ap, ◌∙◌, subst}
 use Rattle.std.specs.Option.{option_map, option_to_list}
 use Rattle.container.specs.Queue.{oldest, later, without}
 use Rattle.elementary.specs.Ids.{same_chunk}

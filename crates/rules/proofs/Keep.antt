@@ -1,7 +1,8 @@
 -- The moves of which every call is made keep a publisher's books.
-use Rattle.std.proofs.Common.{arith, ◌≡◌, ℕ, ◌+◌, ◌-◌, ◌<◌, ◌≤◌, Bool, true, false, cond, eqb, ltb, List, ◌∷◌, length, get_or, sym, refl, ap, ◌∙◌, subst, ⊎_elim}
+use Rattle.std.proofs.Common.{arith, true, false, Bool, cond, ◌≡◌, ℕ, ◌+◌, ◌-◌, ◌<◌, eqb, ltb, List, ◌∷◌, length, get_or, sym, refl, ap, ◌∙◌, subst, ⊎_elim}
+use Rattle.std.proofs.lemmas.Bool.Decides.{nat_tests}
 use Rattle.std.proofs.lemmas.List.{get_or-set_other, length-set}
-use Rattle.std.proofs.lemmas.Bool.{cases_Bool, cases_eq, cond-true, cond-false, lt-ltb, le-ltb, eq-eqb, ne_eqb}
+use Rattle.std.proofs.lemmas.Bool.{cases_Bool, cases_eq, cond-true, cond-false, lt-ltb, eq-eqb, ne_eqb}
 use Rattle.elementary.specs.Ids.{segment}
 use Rattle.elementary.specs.declared.pointer_offset.PointerOffset.{PointerOffset}
 use Rattle.rules.specs.Memory.{Mem, Segment, bucket, is_chunk, taken_at, marked, with_segments, freed}
@@ -51,19 +52,8 @@ holding loans hand p ps o k some few none =
     record {
       ledger = ledger_recounted c o.value (raised (count_of p o.value)) k.ledger e;
       balance = λ x. omega (arith, n x, k.balance x, times_cons o hand x);
-      free = λ x. ⊎_elim
-          (λ same. let z : ◌≡◌ {A = ℕ} (one o x) 1 = cond-true _ _ _ (eq-eqb o.value x same) in
-          let was : 0 < count_of p x = subst (λ y. 0 < count_of p y) same some in
-          let now : 0 < count_of (hold p o) x = omega (arith, n x, was) in
-          k.free x ∙ (lt-ltb _ _ was ∙ sym (lt-ltb _ _ now)))
-          (λ other. let z : ◌≡◌ {A = ℕ} (one o x) 0 = cond-false _ _ _ (ne_eqb o.value x other) in
-          let same : count_of p x ≡ count_of (hold p o) x = omega (arith, n x, z) in
-          k.free x ∙ ap (ltb 0) same)
-          (cases_eq o.value x);
-      alone = λ x h. ⊎_elim
-          (λ same. absurd (omega (arith, h, none, ap (times loans) same)))
-          (λ other. let z : ◌≡◌ {A = ℕ} (one o x) 0 = cond-false _ _ _ (ne_eqb o.value x other) in omega (arith, n x, z, k.alone x h))
-          (cases_eq o.value x);
+      free = λ x. grind (arith, nat_tests, n x, k.free x, some);
+      alone = λ x h. grind (arith, nat_tests, n x, k.alone x, none, h);
       once = k.once;
     }
 
@@ -93,14 +83,7 @@ released_last c o l free last =
     record {
       ledger = ledger_marked (record { mem = c.mem; counts = ds }) o false (ledger_recounted c o (count_at gs cs o - 1) l e);
       count = n;
-      free = λ x. ⊎_elim
-          (λ same. let z : ◌≡◌ {A = ℕ} (cond (eqb o x) 1 0) 1 = cond-true _ _ _ (eq-eqb o x same) in
-          let none : count_at (marked gs o false) ds x ≤ 0 = omega (arith, n x, z, last, ap (count_at gs cs) same) in
-          subst (λ y. taken_at (marked gs o false) y ≡ false) same (mark_same gs o false e) ∙ sym (le-ltb _ _ none))
-          (λ other. let z : ◌≡◌ {A = ℕ} (cond (eqb o x) 1 0) 0 = cond-false _ _ _ (ne_eqb o x other) in
-          let as_was : count_at gs cs x ≡ count_at (marked gs o false) ds x = omega (arith, n x, z) in
-          mark_other gs o false x e other ∙ (free x ∙ ap (ltb 0) as_was))
-          (cases_eq o x);
+      free = λ x. grind (arith, nat_tests, n x, mark_same gs o false e, mark_other gs o false x e, free x, last);
     }
 
 released_more : (c : Chunks) (o : ℕ) → Ledger c → ((x : ℕ) → taken_at c.mem.segments x ≡ ltb 0 (count_at c.mem.segments c.counts x))
@@ -114,16 +97,7 @@ released_more c o l free more =
     record {
       ledger = ledger_recounted c o (count_at gs cs o - 1) l (counted_chunk gs cs o some);
       count = n;
-      free = λ x. ⊎_elim
-          (λ same. let z : ◌≡◌ {A = ℕ} (cond (eqb o x) 1 0) 1 = cond-true _ _ _ (eq-eqb o x same) in
-          let was : 1 < count_at gs cs x = subst (λ y. 1 < count_at gs cs y) same more in
-          let now : 0 < count_at gs ds x = omega (arith, n x, z, was) in
-          let then : 0 < count_at gs cs x = omega (arith, was) in
-          free x ∙ (lt-ltb _ _ then ∙ sym (lt-ltb _ _ now)))
-          (λ other. let z : ◌≡◌ {A = ℕ} (cond (eqb o x) 1 0) 0 = cond-false _ _ _ (ne_eqb o x other) in
-          let as_was : count_at gs cs x ≡ count_at gs ds x = omega (arith, n x, z) in
-          free x ∙ ap (ltb 0) as_was)
-          (cases_eq o x);
+      free = λ x. grind (arith, nat_tests, n x, free x, more);
     }
 
 release : (c : Chunks) (o : ℕ) → Ledger c → ((x : ℕ) → taken_at c.mem.segments x ≡ ltb 0 (count_at c.mem.segments c.counts x))

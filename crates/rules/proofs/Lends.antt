@@ -1,12 +1,13 @@
 -- A loan keeps a publisher's books.
-use Rattle.std.proofs.Common.{arith, rules, ◌≡◌, ℕ, zero, suc, ◌+◌, ◌/◌, ◌%◌, ◌<◌, ◌≤◌, Bool, true, false, ◌&&◌, eqb, ltb, List, [], ◌∷◌, ◌++◌, length, get_or, replicate, Ok, Err, Result, sym, refl, ap, ◌∙◌, subst, inl, inr, ⊎_elim}
-use Rattle.std.proofs.lemmas.Bool.{not-true, and_right, cases_eq, cond-true, cond-false, lt-ltb, ltb-false, eq-eqb, ne_eqb, and_parts}
+use Rattle.std.proofs.Common.{rules, arith, true, false, Bool, ◌≡◌, ℕ, zero, suc, ◌+◌, ◌<◌, ◌≤◌, List, [], ◌∷◌, ◌++◌, length, get_or, replicate, Ok, Err, Result, sym, refl, ◌∙◌, subst, inl, inr, ⊎_elim}
+use Rattle.std.proofs.lemmas.Bool.Decides.{nat_tests}
+use Rattle.std.proofs.lemmas.Bool.{not-true, and_right, cases_eq, ltb-false, and_parts}
 use Rattle.std.proofs.lemmas.List.{get_or_past, get_or_push, get_or_append_left, length_push, length-set, length-replicate}
-use Rattle.elementary.specs.Ids.{distance, segment}
+use Rattle.elementary.specs.Ids.{segment}
 use Rattle.elementary.specs.declared.pointer_offset.PointerOffset.{PointerOffset}
 use Rattle.elementary.specs.declared.error.AllocationError.{AllocationError}
 use Rattle.elementary.specs.declared.error.LoanError.{LoanError}
-use Rattle.rules.specs.Memory.{Mem, Segment, Sound, no_segment, segment_at, home, bucket, is_chunk, taken_at, free_at, marked, with_segments, blank, Takes, Allocates}
+use Rattle.rules.specs.Memory.{Mem, Segment, Sound, no_segment, segment_at, is_chunk, taken_at, free_at, marked, with_segments, blank, Takes, Allocates}
 use Rattle.rules.specs.Counts.{Chunks, count_at, raised, borrowed}
 use Rattle.rules.specs.Bank.{Goes, Places}
 use Rattle.rules.specs.Publisher.{Pub, Side, with_chunks, with_loans, reclaimed_all, lent, Allots, may_loan, Loans}
@@ -45,20 +46,8 @@ taking_marked loans hand p ps o free k =
     record {
       ledger = ledger_recounted d v (raised (count_at hs cs v)) ledger there;
       balance = λ x. omega (arith, n x, k.balance x, times_push loans o x);
-      free = λ x. ⊎_elim
-          (λ same. let z : ◌≡◌ {A = ℕ} (one o x) 1 = cond-true _ _ _ (eq-eqb v x same) in
-          let now : 0 < count_at hs (borrowed d v).counts x = omega (arith, n x, z) in
-          subst (λ y. taken_at hs y ≡ true) same (mark_same gs v true a.0) ∙ sym (lt-ltb _ _ now))
-          (λ other. let z : ◌≡◌ {A = ℕ} (one o x) 0 = cond-false _ _ _ (ne_eqb v x other) in
-          let as_was : count_at gs cs x ≡ count_at hs (borrowed d v).counts x = omega (arith, n x, z) in
-          mark_other gs v true x a.0 other ∙ (k.free x ∙ ap (ltb 0) as_was))
-          (cases_eq v x);
-      alone = λ x h. ⊎_elim
-          (λ same. let z : ◌≡◌ {A = ℕ} (one o x) 1 = cond-true _ _ _ (eq-eqb v x same) in
-          omega (arith, n x, z, zero, ap (count_at gs cs) same))
-          (λ other. let z : ◌≡◌ {A = ℕ} (one o x) 0 = cond-false _ _ _ (ne_eqb v x other) in
-          omega (arith, n x, z, k.alone x (omega (arith, h, z, times_push loans o x))))
-          (cases_eq v x);
+      free = λ x. grind (arith, nat_tests, n x, mark_same gs v true a.0, mark_other gs v true x a.0, k.free x);
+      alone = λ x h. grind (arith, nat_tests, n x, zero, k.alone x, times_push loans o x, h);
       once = k.once;
     }
 
@@ -80,13 +69,7 @@ nothing_named gs x e = search (rules, get_or_past)
 
 added_taken : (gs : List Segment) (start size count x : ℕ) → taken_at (gs ++ blank start size count ∷ []) x ≡ taken_at gs x
 added_taken gs start size count x =
-    ⊎_elim
-    (λ same. let hs = gs ++ blank start size count ∷ [] in
-    and_right (is_chunk hs x) _ (ap (λ (g : Segment). get_or g.taken (bucket hs x) false) (added_same gs (blank start size count) (segment x) same) ∙ all_false count (bucket hs x))
-    ∙ sym (ap (λ t. t && get_or (home gs x).taken (bucket gs x) false) (nothing_named gs x same)))
-    (λ other. ap (λ (g : Segment). (eqb (distance x % g.size) 0 && ltb (distance x / g.size) (length g.taken)) && get_or g.taken (distance x / g.size) false)
-    (added_other gs (blank start size count) (segment x) other))
-    (cases_eq (segment x) (length gs))
+    ⊎_elim (λ same. grind (arith, added_same, nothing_named, all_false)) (λ other. grind (arith, added_other)) (cases_eq (segment x) (length gs))
   where
     all_false : (n i : ℕ) → get_or (replicate n false) i false ≡ false
     all_false zero i = refl

@@ -1,8 +1,9 @@
 -- What every step of a publisher's call leaves as it was, beside its books.
-use Rattle.std.proofs.Common.{rules, ◌≡◌, ℕ, ◌+◌, ◌<◌, ◌≤◌, Bool, false, eqb, ◌⊎◌, List, [], ◌∷◌, ◌++◌, length, Some, None, Option, sym, refl, ap, ◌∙◌, subst, ⊎_elim, arith}
+use Rattle.std.proofs.Common.{rules, arith, false, Bool, ◌≡◌, ℕ, ◌+◌, ◌<◌, ◌≤◌, eqb, ◌⊎◌, List, [], ◌∷◌, ◌++◌, length, Some, None, Option, sym, refl, ap, ◌∙◌, subst, ⊎_elim}
 use Rattle.std.specs.Option.{option_to_list}
+use Rattle.std.proofs.lemmas.Bool.Decides.{nat_tests}
 use Rattle.std.proofs.lemmas.List.{length-set}
-use Rattle.std.proofs.lemmas.Bool.{cases_Bool, cases_eq, cond-true, cond-false, ne_eqb}
+use Rattle.std.proofs.lemmas.Bool.{cases_Bool, cond-true, cond-false}
 use Rattle.elementary.specs.Ids.{same_port, distance, segment}
 use Rattle.elementary.specs.declared.port_id.PortId.{PortId}
 use Rattle.elementary.specs.declared.pointer_offset.PointerOffset.{PointerOffset}
@@ -14,7 +15,6 @@ use Rattle.rules.specs.Bank.{Places, at, SafeBank}
 use Rattle.rules.specs.Publisher.{Pub, Side, hold, let_go, let_go_if, let_go_all}
 use Rattle.rules.specs.Books.{count_of, Books}
 use Rattle.rules.proofs.Marks.{mark_keeps, mark_size, mark_count}
-use Rattle.rules.proofs.Offsets.{one}
 use Rattle.rules.proofs.Keep.{letting_go, hold_count, let_go_count}
 use Rattle.rules.proofs.Views.{own_details, Unmoved, unmoved_refl, unmoved_trans}
 
@@ -196,10 +196,7 @@ passage_hold loans hand ps o p k some few = record {
     bytes = refl;
     slots = refl;
     shape = shape_refl p.chunks.mem;
-    fewer = λ x h. ⊎_elim
-        (λ same. subst (λ y. 0 < count_of p y) same some)
-        (λ other. let z : ◌≡◌ {A = ℕ} (one o x) 0 = cond-false _ _ _ (ne_eqb o.value x other) in omega (arith, hold_count loans hand p ps o k some few x, z, h))
-        (cases_eq o.value x);
+    fewer = λ x h. grind (arith, nat_tests, hold_count loans hand p ps o k some few x, some, h);
     bank = λ s. s;
     fits = λ f. f;
     others = λ a ne. unmoved_refl a ps;

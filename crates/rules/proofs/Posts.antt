@@ -1,12 +1,11 @@
 -- Sending to one link keeps a publisher in order.
-use Rattle.std.proofs.Common.{arith, rules, ◌≡◌, ℕ, zero, suc, ◌+◌, ◌<◌, ◌≤◌, Bool, true, cond, ◌||◌, List, [], ◌∷◌, ◌++◌, length, get_or, set, is_ok, Some, None, Ok, Err, sum_by, Option, Result, sym, refl, ap, ◌∙◌, ⊎_elim}
+use Rattle.std.proofs.Common.{rules, arith, true, false, Bool, cond, ◌≡◌, ℕ, zero, suc, ◌+◌, ◌<◌, ◌≤◌, List, [], ◌∷◌, ◌++◌, length, get_or, set, Some, None, Ok, Err, sum_by, Option, Result, sym, refl, ap, ◌∙◌, ⊎_elim}
 use Rattle.std.specs.Option.{option_to_list, option_map}
 use Rattle.std.proofs.lemmas.Option.{none-some}
 use Rattle.std.proofs.lemmas.List.Sums.{sum_by-le-sum_by, count_by-le-length, sum_by-cons, sum_by-set}
 use Rattle.std.proofs.lemmas.List.{get_or-set_same, get_or-set_other, get_or_past, set_past}
-use Rattle.std.proofs.lemmas.Bool.{cases_Bool, cases_eq, cases_lt, cond_both, cond-true, cond-false, or_parts, false≢true}
-use Rattle.container.specs.Queue.{roomy, later, oldest, overflowed, evicted, has}
-use Rattle.elementary.specs.Ids.{same_chunk}
+use Rattle.std.proofs.lemmas.Bool.{cases_lt, cond_both, false≢true}
+use Rattle.container.specs.Queue.{roomy, later, oldest, overflowed, evicted}
 use Rattle.elementary.specs.declared.port_id.PortId.{PortId}
 use Rattle.elementary.specs.declared.pointer_offset.PointerOffset.{PointerOffset}
 use Rattle.elementary.specs.declared.link.Mark.{Mark}
@@ -32,22 +31,11 @@ use Rattle.rules.proofs.Cycles.{beginning, tagging, sweeping}
 
 -- what comes in and what leaves
 pub overflowed_evicted : (n : ℕ) (xs : List PointerOffset) (x : PointerOffset) (o : ℕ) → times (overflowed n xs x) o + times (option_to_list (evicted n xs x)) o ≡ times xs o + one x o
-overflowed_evicted n xs x o =
-    ⊎_elim
-    (λ yes. omega (
-      arith,
-      times_push xs x o,
-      ap (λ ys. times ys o) (cond-true (roomy n xs) (xs ++ x ∷ []) (later (xs ++ x ∷ [])) yes),
-      ap (λ y. times (option_to_list y) o) (cond-true (roomy n xs) None (oldest (xs ++ x ∷ [])) yes),
-    ))
-    (λ no. omega (
-      arith,
-      times_push xs x o,
-      times_split (xs ++ x ∷ []) o,
-      ap (λ ys. times ys o) (cond-false (roomy n xs) (xs ++ x ∷ []) (later (xs ++ x ∷ [])) no),
-      ap (λ y. times (option_to_list y) o) (cond-false (roomy n xs) None (oldest (xs ++ x ∷ [])) no),
-    ))
-    (cases_Bool (roomy n xs))
+overflowed_evicted n xs x o = go (roomy n xs)
+  where
+    go : (b : Bool) → times (cond b (xs ++ x ∷ []) (later (xs ++ x ∷ []))) o + times (option_to_list (cond b None (oldest (xs ++ x ∷ [])))) o ≡ times xs o + one x o
+    go true = omega (arith, times_push xs x o)
+    go false = omega (arith, times_push xs x o, times_split (xs ++ x ∷ []) o)
 
 abbrev payload : Result (Option PointerOffset) ZeroCopySendError → Option PointerOffset
 payload (Ok e) = e
@@ -61,9 +49,7 @@ sent_times : (l : Link) (o : PointerOffset) (e : Option PointerOffset) (x : ℕ)
     → times (listed (send_after l o)) x + times (option_to_list e) x ≡ times (listed l) x + one o x
 sent_times l o e x h =
     let n = l.details.buffer_size in
-    let out : times (option_to_list (evicted n l.waiting o)) x ≡ times (option_to_list e) x = ap (λ y. times (option_to_list y) x) (answer_is (attached l.sender_end) l.mark l o e h) in
-    let now : times (send_after l o).waiting x ≡ times (overflowed n l.waiting o) x = ap (λ ys. times ys x) (cond-true _ _ _ (ap is_ok h)) in
-    omega (arith, out, now, overflowed_evicted n l.waiting o x, listed_times (send_after l o) x, listed_times l x)
+    grind (arith, answer_is (attached l.sender_end) l.mark l o e h, overflowed_evicted n l.waiting o x, listed_times (send_after l o) x, listed_times l x)
 
 here_sent : (id : PortId) (ps : Places) (i : ℕ) (o : PointerOffset) (e : Option PointerOffset) (x : ℕ) → owns id (at ps i) ≡ true → sends ps i o ≡ Ok e
     → held_here id x (option_map (λ l. send_after l o) (at ps i)) + times (option_to_list e) x ≡ held_here id x (at ps i) + one o x
@@ -120,8 +106,7 @@ nothing_owned id o [] h = omega arith
 nothing_owned id o (x ∷ ps) h = omega (arith, sum_by-cons (held_here id o) x ps, nothing_owned id o ps (λ j. h (suc j)), here x (h 0))
   where
     here : (y : Option Link) → (owns id y ≡ true → ⊥) → held_here id o y ≤ 0
-    here None f = omega arith
-    here (Some l) f = ⊎_elim (λ yes. absurd (f yes)) (λ no. omega (arith, cond-false (mine id l) (times (listed l) o) 0 no)) (cases_Bool (mine id l))
+    here y f = search rules
 
 -- one place emptied
 emptied_place : (id : PortId) (o : ℕ) (ps : Places) (i : ℕ) → held_by id ps o ≤ held_by id (set ps i None) o + held_here id o (at ps i)
@@ -134,12 +119,7 @@ emptied_less : (id : PortId) (o : ℕ) (ps : Places) (i : ℕ) (xs : List (Optio
 emptied_less id o ps i xs = sum_by-le-sum_by (slot_holds id o (set ps i None)) (slot_holds id o ps) xs here
   where
     here : (y : Option Connection) → slot_holds id o (set ps i None) y ≤ slot_holds id o ps y
-    here None = omega arith
-    here (Some c) =
-        ⊎_elim
-        (λ same. omega (arith, ap (λ j. held_here id o (at (set ps i None) j)) same, ap (held_here id o) (none_there ps i)))
-        (λ other. omega (arith, ap (held_here id o) (get_or-set_other ps i c.place None None other)))
-        (cases_eq c.place i)
+    here y = search (rules, none_there, get_or-set_other)
 
 -- all that hold a chunk are links of slots
 slots_hold : (id : PortId) (o : ℕ) (xs : List (Option Connection)) (ps : Places)
@@ -150,8 +130,7 @@ slots_hold id o (None ∷ xs) ps cover =
     omega (arith, sum_by-cons (slot_holds id o ps) None xs, slots_hold id o xs ps (λ j e. let f = cover j e in later_slot j f.0 f.1.0 f.1.1 f.1.2))
   where
     later_slot : (j i : ℕ) (c : Connection) → get_or (None ∷ xs) i None ≡ Some c → c.place ≡ j → (i : ℕ) × ((c : Connection) × (get_or xs i None ≡ Some c) × (c.place ≡ j))
-    later_slot j zero c e p = absurd (none-some c e)
-    later_slot j (suc i) c e p = (i, (c, e, p))
+    later_slot j i c e p = search rules
 slots_hold id o (Some d ∷ xs) ps cover =
     omega (
       arith,
@@ -188,11 +167,7 @@ untaken id ps i o e = through (at ps i)
     through : (x : Option Link) → by x (Err sending.NotConnected) (λ l. send_answer l o) ≡ Ok e → held_here id o.value x ≡ 0
     through None h = refl
     through (Some l) h =
-        let a = or_parts (has same_chunk l.waiting o) (has same_chunk l.borrowed o || has same_chunk l.returned o) (accepted l o (ap is_ok h)) in
-        let b = or_parts (has same_chunk l.borrowed o) (has same_chunk l.returned o) a.1 in
-        let z : times (listed l) o.value ≡ 0
-        = omega (arith, listed_times l o.value, absent_times l.waiting o a.0, absent_times l.borrowed o b.0, absent_times l.returned o b.1) in
-        ⊎_elim (λ yes. cond-true _ _ _ yes ∙ z) (λ no. cond-false _ _ _ no) (cases_Bool (mine id l))
+        grind (arith, accepted l o, listed_times l o.value, absent_times l.waiting o, absent_times l.borrowed o, absent_times l.returned o)
 
 at_most_one : (id : PortId) (ps : Places) (o : ℕ) → SoundBank ps → (x : Option Connection) → slot_holds id o ps x ≤ 1
 at_most_one id ps o s None = omega arith

@@ -1,5 +1,5 @@
 -- Reclaiming, filling and returning keep a publisher's books.
-use Rattle.std.proofs.Common.{◌≡◌, ℕ, suc, ◌+◌, ◌<◌, true, cond, List, [], ◌∷◌, ◌++◌, length, get_or, set, Some, None, fold, Option, sym, refl, ap, ◌∙◌, subst, ⊎_elim, arith}
+use Rattle.std.proofs.Common.{rules, arith, true, cond, ◌≡◌, ℕ, suc, ◌+◌, ◌<◌, List, [], ◌∷◌, ◌++◌, length, get_or, set, Some, None, fold, Option, sym, refl, ap, ◌∙◌, subst, ⊎_elim}
 use Rattle.std.specs.Option.{option_map}
 use Rattle.std.proofs.lemmas.List.Sums.{sum_by-set}
 use Rattle.std.proofs.lemmas.Bool.{cases_Bool, cond-true, cond-false, and_parts, false≢true}
@@ -8,7 +8,7 @@ use Rattle.elementary.specs.Ids.{same_chunk}
 use Rattle.elementary.specs.declared.port_id.PortId.{PortId}
 use Rattle.elementary.specs.declared.pointer_offset.PointerOffset.{PointerOffset}
 use Rattle.rules.specs.Pools.{by}
-use Rattle.rules.specs.Links.{Link, attached, listed, times}
+use Rattle.rules.specs.Links.{Link, attached, times}
 use Rattle.rules.specs.Bank.{Places, at, changed}
 use Rattle.rules.specs.Publisher.{Connection, Pub, Side, slot_at, with_loans, let_go, let_go_all, returned_at, cleared, emptied, reclaimed_all, is_live, unloaned, fill_after, return_after}
 use Rattle.rules.specs.Books.{mine, held_here, held_by, Books, owns, InOrder, beside}
@@ -35,8 +35,7 @@ pub owns_changed : (f : Link → Link) → ((id : PortId) (l : Link) → mine id
 owns_changed f keep id ps i = set_each (λ x y. owns id y ≡ owns id x) (λ x. refl) ps i _ None (through (at ps i))
   where
     through : (x : Option Link) → owns id (option_map f x) ≡ owns id x
-    through None = refl
-    through (Some l) = keep id l
+    through x = search rules
 
 -- what is returned leaves the link
 here_cleared : (id : PortId) (ps : Places) (i o : ℕ) → owns id (at ps i) ≡ true
@@ -47,12 +46,7 @@ here_cleared id ps i o = through (at ps i)
         → held_here id o (option_map cleared x) + times (by x [] (λ l. cond (attached l.sender_end) l.returned [])) o ≡ held_here id o x
     through None e = absurd (false≢true e)
     through (Some l) e =
-        let a : attached l.sender_end ≡ true = (and_parts (attached l.sender_end) _ e).0 in
-        let now : held_here id o (Some (cleared l)) ≡ times (listed (cleared l)) o = cond-true _ _ _ e in
-        let was : held_here id o (Some l) ≡ times (listed l) o = cond-true _ _ _ e in
-        let gone : times (cleared l).returned o ≡ 0 = ap (λ os. times os o) (cond-true _ _ _ a) in
-        let taken : times (cond (attached l.sender_end) l.returned []) o ≡ times l.returned o = ap (λ os. times os o) (cond-true _ _ _ a) in
-        omega (arith, now, was, gone, taken, listed_times (cleared l) o, listed_times l o)
+        grind (arith, and_parts (attached l.sender_end) _ e, listed_times (cleared l) o, listed_times l o)
 
 -- LETTING ALL GO
 

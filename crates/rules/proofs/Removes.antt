@@ -1,5 +1,5 @@
 -- Removing links and closing keep a publisher in order.
-use Rattle.std.proofs.Common.{rules, arith, ◌≡◌, ℕ, ◌+◌, ◌<◌, true, false, cond, eqb, List, ◌++◌, length, get_or, set, is_some, Some, None, Option, sym, refl, ap, ◌∙◌, subst, ⊎_elim, MatchOption}
+use Rattle.std.proofs.Common.{rules, arith, true, false, cond, ◌≡◌, ℕ, ◌+◌, ◌<◌, eqb, List, ◌++◌, length, get_or, set, is_some, Some, None, Option, sym, refl, ap, ◌∙◌, subst, ⊎_elim, MatchOption}
 use Rattle.std.specs.List.Sorted.{IsPermutation}
 use Rattle.std.proofs.lemmas.Bool.{cases_eq, false≢true}
 use Rattle.std.proofs.lemmas.Option.{none-some}
@@ -61,8 +61,7 @@ unwired : (p : Pub) (ps : Places) (i : ℕ) (c : Connection) → slot_at p i ≡
 unwired p ps i c there w =
     let back = slot_back p.slots i c there in
     record {
-      own = λ j d e. let b = back j d e in
-          ap (owns p.id) (get_or-set_other ps c.place d.place _ None (λ same. b.0 (w.apart j i d c b.1 there same))) ∙ w.own j d b.1;
+      own = λ j d e. grind (arith, back j d e, get_or-set_other, w.apart j i d c, w.own j d);
       apart = λ j k d f a b. w.apart j k d f (back j d a).1 (back k f b).1;
       cover = λ j e. let other : j ≡ c.place → ⊥ = λ same. false≢true (sym (released_place p.id ps c.place (w.own i c there)) ∙ (ap (λ k. owns p.id (at (detached Sender ps c.place) k)) (sym same) ∙ e)) in
           let f = w.cover j (ap (owns p.id) (sym (get_or-set_other ps c.place j _ None other)) ∙ e) in

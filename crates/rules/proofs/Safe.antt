@@ -1,5 +1,5 @@
 -- Where no sender was ever attached, nothing was ever sent: every call keeps it so.
-use Rattle.std.proofs.Common.{rules, ◌≡◌, ℕ, ◌+◌, ◌≤◌, Bool, true, false, List, [], ◌∷◌, length, set, Some, None, fold, Option, sym, refl, ◌∙◌, subst, ⊎_elim, arith}
+use Rattle.std.proofs.Common.{rules, arith, true, false, Bool, ◌≡◌, ℕ, ◌+◌, ◌≤◌, List, [], ◌∷◌, length, set, Some, None, fold, Option, sym, refl, ◌∙◌, subst}
 use Rattle.std.proofs.lemmas.Bool.{cond-false, cond_both}
 use Rattle.elementary.specs.declared.pointer_offset.PointerOffset.{PointerOffset}
 use Rattle.elementary.specs.declared.link.LinkDetails.{LinkDetails}
@@ -45,9 +45,7 @@ unsent_attached end l h = search rules
 pub safe_changed : (ps : Places) (i : ℕ) (f : Link → Link) → ((l : Link) → Unsent l → Unsent (f l)) → (SoundBank ps → SoundBank (changed ps i f)) → SafeBank ps → SafeBank (changed ps i f)
 safe_changed ps i f keep sound s = record {
   sound = sound s.sound;
-  unsent = λ j l e. let c = changed_at ps i f j l e in
-      let u = s.unsent j c.0 c.1 in
-      ⊎_elim (λ y. subst Unsent (sym y.0) (keep c.0 u)) (λ y. subst Unsent (sym y) u) c.2;
+  unsent = λ j l e. grind (arith, changed_at ps i f j l e, s.unsent j, keep);
 }
 
 safe_set : (ps : Places) (i : ℕ) (x : Option Link) → ((l : Link) → x ≡ Some l → Unsent l) → (SoundBank ps → SoundBank (set ps i x)) → SafeBank ps → SafeBank (set ps i x)

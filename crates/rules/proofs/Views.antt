@@ -1,5 +1,5 @@
 -- What a publisher sees of the bank: its own links, and what they hold.
-use Rattle.std.proofs.Common.{arith, rules, ◌≡◌, ℕ, suc, true, false, cond, List, [], ◌∷◌, set, Some, None, sum_by, Option, refl, ap, ◌∙◌}
+use Rattle.std.proofs.Common.{rules, arith, true, false, cond, ◌≡◌, ℕ, suc, List, [], ◌∷◌, set, Some, None, sum_by, Option, refl, ap, ◌∙◌}
 use Rattle.std.specs.Option.{option_map}
 use Rattle.std.proofs.lemmas.List.Sums.{sum_by-cons}
 use Rattle.std.proofs.lemmas.Bool.{and_parts}
@@ -71,8 +71,7 @@ pub own_changed : (f : Link → Link) → ((id : PortId) (l : Link) → own_deta
 own_changed f keep id ps i = set_each (λ x y. own_details id y ≡ own_details id x) (λ x. refl) ps i _ None (through (at ps i))
   where
     through : (x : Option Link) → own_details id (option_map f x) ≡ own_details id x
-    through None = refl
-    through (Some l) = keep id l
+    through x = search rules
 
 -- WHAT SUBSCRIBERS AND TURNS LEAVE
 
