@@ -235,7 +235,7 @@ pub marking_by : (P : Places → Type 0) → ((ps : Places) (i : ℕ) (x : Mark)
     → (rigged : Bool) (ps : Places) (i : ℕ) (m : Mark) (qs : Places) → SetsMark rigged ps i m qs → P ps → P qs
 marking_by P keep rigged ps i m qs w k = search rules
 
-proper_marked : (x : Mark) (l : Link) → Proper l → Proper (with_mark l x)
+pub proper_marked : (x : Mark) (l : Link) → Proper l → Proper (with_mark l x)
 proper_marked x l p = record { buffer = p.buffer; borrow = p.borrow; waiting = p.waiting; borrowed = p.borrowed; returned = p.returned; once = p.once; live = p.live }
 
 pub sound_marked : (rigged : Bool) (ps : Places) (i : ℕ) (m : Mark) (qs : Places) → SetsMark rigged ps i m qs → SoundBank ps → SoundBank qs

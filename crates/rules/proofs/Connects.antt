@@ -3,7 +3,7 @@ use Rattle.std.proofs.Common.{rules, arith, true, false, cond, ◌≡◌, ℕ, �
 use Rattle.std.proofs.lemmas.Bool.Decides.{nat_tests}
 use Rattle.std.proofs.lemmas.List.Sums.{sum_by-take-drop, sum_by-set}
 use Rattle.std.proofs.lemmas.List.{get_or-set_same, get_or-set_other, length-set}
-use Rattle.std.proofs.lemmas.Bool.{cases_eq, cond-true, and_parts, eq-eqb, false≢true}
+use Rattle.std.proofs.lemmas.Bool.{cases_eq, cond-true, and_parts, false≢true}
 use Rattle.elementary.specs.declared.port_id.PortId.{PortId}
 use Rattle.elementary.specs.declared.pointer_offset.PointerOffset.{PointerOffset}
 use Rattle.elementary.specs.declared.port_list.SubscriberDetails.{SubscriberDetails}
@@ -17,7 +17,7 @@ use Rattle.rules.specs.Links.{Link, attached, stepped, fresh, listed, times}
 use Rattle.rules.specs.Bank.{Places, at, sends, create_fault, MayTake, SafeBank}
 use Rattle.rules.specs.Publisher.{Connection, Side, slot_at, with_slots, wanted, connect_fault, taken_up, handed, last_of, connected, Connects, reclaimed_all}
 use Rattle.rules.specs.Books.{mine, held_here, held_by, owns, Wired, InOrder}
-use Rattle.rules.proofs.Offsets.{one, times_cons}
+use Rattle.rules.proofs.Offsets.{one_self, times_cons}
 use Rattle.rules.proofs.Banks.{creatable, first_found}
 use Rattle.rules.proofs.Safe.{safe_created}
 use Rattle.rules.proofs.Views.{none_held, foreign, not_mine, unmoved_set}
@@ -147,8 +147,7 @@ hand_all : (loans hand : List PointerOffset) (os : List PointerOffset) (g : Side
     → Posted loans hand g (fold (handed c.place) g os)
 hand_all loans hand [] g s c there safe kept single k = record { order = k; passage = passage_refl g; slots = refl }
 hand_all loans hand (o ∷ os) g s c there safe kept single k =
-    let self : ◌≡◌ {A = ℕ} (one o o.value) 1 = cond-true _ _ _ (eq-eqb o.value o.value refl) in
-    let a = hand_over loans hand g s c o there safe (kept o (omega (arith, times_cons o os o.value, self))) (single o.value) k in
+    let a = hand_over loans hand g s c o there safe (kept o (omega (arith, times_cons o os o.value, one_self o))) (single o.value) k in
     let h = handed c.place g o in
     let b = hand_all loans hand os h s c (ap (λ xs. get_or xs s None) a.slots ∙ there) (a.passage.course.bank safe)
     (λ x some. let z = kept x (omega (arith, times_cons o os x.value, some)) in omega (arith, ap (λ l. times l x.value) a.passage.history, z)) single a.order in

@@ -36,7 +36,7 @@ tagging loans hand g i k =
     let same : (j : ℕ) → places (get_or (set p.slots i y) j None) ≡ places (slot_at p j)
     = set_each (λ c d. places d ≡ places c) (λ c. refl) p.slots i y None (tag_places p.cycle (slot_at p i)) in
     record {
-      books = record { ledger = b.ledger; balance = b.balance; free = b.free; alone = b.alone; once = b.once };
+      books = search rules;
       wired = retagged p (tag_slot p i) g.links refl (length-set p.slots i y) same k.wired;
     }
 
@@ -47,11 +47,11 @@ beginning loans hand g n k =
     let to : Pub → Type 0 = λ q. InOrder loans hand (beside g q) in
     ⊎_elim
     (λ yes. subst to (sym (cond-true (ltb p.cycle (2 ^ 64 - 1)) _ _ yes)) (record {
-      books = record { ledger = b.ledger; balance = b.balance; free = b.free; alone = b.alone; once = b.once };
-      wired = record { own = k.wired.own; apart = k.wired.apart; cover = k.wired.cover; few = k.wired.few };
+      books = search rules;
+      wired = search rules;
     }))
     (λ no. subst to (sym (cond-false (ltb p.cycle (2 ^ 64 - 1)) _ _ no)) (record {
-      books = record { ledger = b.ledger; balance = b.balance; free = b.free; alone = b.alone; once = b.once };
+      books = search rules;
       wired = retagged p _ g.links refl (length-map p.slots (option_map (tagged 0))) (λ j. ap places (get_or-map (option_map (tagged 0)) p.slots j None) ∙ tag_places 0 (slot_at p j)) k.wired;
     }))
     (cases_Bool (ltb p.cycle (2 ^ 64 - 1)))

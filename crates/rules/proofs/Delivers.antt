@@ -2,7 +2,7 @@
 use Rattle.std.proofs.Common.{rules, arith, true, false, Bool, cond, ◌≡◌, ℕ, suc, ◌+◌, ◌<◌, ◌≤◌, eqb, List, [], ◌∷◌, ◌++◌, get_or, Some, None, Ok, Err, Option, Result, sym, refl, ap, ◌∙◌, subst}
 use Rattle.std.specs.Option.{option_to_list}
 use Rattle.std.proofs.lemmas.Bool.Decides.{nat_tests}
-use Rattle.std.proofs.lemmas.Bool.{cond-true, cond-false, eq-eqb, false≢true}
+use Rattle.std.proofs.lemmas.Bool.{cond-true, cond-false, false≢true}
 use Rattle.container.specs.Queue.{without, overflowed, evicted}
 use Rattle.elementary.specs.Ids.{same_chunk}
 use Rattle.elementary.specs.declared.pointer_offset.PointerOffset.{PointerOffset}
@@ -14,7 +14,7 @@ use Rattle.rules.specs.Links.{times}
 use Rattle.rules.specs.Bank.{Goes, Places, sends, Turned, SafeBank}
 use Rattle.rules.specs.Publisher.{Connection, Pub, Side, slot_at, with_history, with_loans, hold, let_go, let_go_if, reclaimed_all, is_live, noted, Updates, Going, Verdict, Handler, judged, ended, with_links, Tries, tried, turned, Rounds, done, skipped, stopped, next, Delivers, spent, Posts, Sends}
 use Rattle.rules.specs.Books.{count_of, Books, InOrder}
-use Rattle.rules.proofs.Offsets.{one, times_cons, times_append, without_times, overflowed_times}
+use Rattle.rules.proofs.Offsets.{one_self, times_cons, times_append, without_times, overflowed_times}
 use Rattle.rules.proofs.Keep.{holding, letting_go}
 use Rattle.rules.proofs.Holdings.{stir_turned}
 use Rattle.rules.proofs.Views.{unmoved_held, unmoved_order}
@@ -180,14 +180,13 @@ taken_in_hand : (g : Side) (o : PointerOffset) → is_live g.port o ≡ true →
 taken_in_hand g o live k =
     let p = g.port in
     let v = o.value in
-    let self : ◌≡◌ {A = ℕ} (one o v) 1 = cond-true _ _ _ (eq-eqb v v refl) in
     let less = without_times p.loans o v live in
     let b = in_hand [] p g.links o live k.books in
-    let alone = k.books.alone v (omega (arith, less, self)) in
+    let alone = k.books.alone v (omega (arith, less, one_self o)) in
     record {
-      order = record { books = record { ledger = b.ledger; balance = b.balance; free = b.free; alone = b.alone; once = b.once }; wired = k.wired };
-      lent = omega (arith, less, self, alone, k.books.balance v);
-      absent = omega (arith, less, self, alone, k.books.balance v);
+      order = record { books = search rules; wired = k.wired };
+      lent = omega (arith, less, one_self o, alone, k.books.balance v);
+      absent = omega (arith, less, one_self o, alone, k.books.balance v);
     }
 
 -- the loan ends
@@ -217,7 +216,7 @@ posts f g m o (Some e) r k (_, is) p safe i w =
 posts f g m o None r k d p safe i w =
     let l = without same_chunk g.port.loans o in
     let v = o.value in
-    let self : ◌≡◌ {A = ℕ} (times (o ∷ []) v) 1 = times_cons o [] v ∙ ap (λ n. n + 0) (cond-true _ _ _ (eq-eqb v v refl)) in
+    let self : ◌≡◌ {A = ℕ} (times (o ∷ []) v) 1 = omega (arith, times_cons o [] v, one_self o) in
     let absent : times m.port.history v ≡ 0 = ap (λ h. times h v) p.history ∙ i.absent in
     let held = held_few m.port m.links v safe.sound w.wired in
     let count = w.books.balance v in

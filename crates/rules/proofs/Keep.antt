@@ -1,5 +1,5 @@
 -- The moves of which every call is made keep a publisher's books.
-use Rattle.std.proofs.Common.{arith, true, false, Bool, cond, ◌≡◌, ℕ, ◌+◌, ◌-◌, ◌<◌, eqb, ltb, List, ◌∷◌, length, get_or, sym, refl, ap, ◌∙◌, subst, ⊎_elim}
+use Rattle.std.proofs.Common.{rules, arith, true, false, Bool, cond, ◌≡◌, ℕ, ◌+◌, ◌-◌, ◌<◌, eqb, ltb, List, ◌∷◌, length, get_or, sym, ap, ◌∙◌, subst, ⊎_elim}
 use Rattle.std.proofs.lemmas.Bool.Decides.{nat_tests}
 use Rattle.std.proofs.lemmas.List.{get_or-set_other, length-set}
 use Rattle.std.proofs.lemmas.Bool.{cases_Bool, cases_eq, cond-true, cond-false, lt-ltb, eq-eqb, ne_eqb}
@@ -11,9 +11,9 @@ use Rattle.rules.specs.Links.{times}
 use Rattle.rules.specs.Bank.{Places}
 use Rattle.rules.specs.Publisher.{Pub, hold, let_go}
 use Rattle.rules.specs.Books.{held_by, count_of, Ledger, Books, MovesKeepTheBooks}
+use Rattle.rules.proofs.Offsets.{one_self, one, times_cons}
 use Rattle.rules.proofs.Chunks.{chunk_there}
 use Rattle.rules.proofs.Marks.{mark_count, mark_same, mark_other}
-use Rattle.rules.proofs.Offsets.{one, times_cons}
 use Rattle.rules.proofs.Recounts.{row_same, recount_same, recount_other, count_marked}
 
 -- what is counted is a chunk
@@ -114,11 +114,13 @@ release c o l free some =
     (released_more c o l free (omega (arith, some, more))))
     (cases_eq (count_at gs cs o) 1)
 
+-- a chunk in hand is let go
+let_gone : (loans hand : List PointerOffset) (p : Pub) (ps : Places) (o : PointerOffset) → Books loans (o ∷ hand) p ps → Released p.chunks (let_go p o).chunks o.value
+let_gone loans hand p ps o k = release p.chunks o.value k.ledger k.free (omega (arith, k.balance o.value, times_cons o hand o.value, one_self o))
+
 pub letting_go : (loans hand : List PointerOffset) (p : Pub) (ps : Places) (o : PointerOffset) → Books loans (o ∷ hand) p ps → Books loans hand (let_go p o) ps
 letting_go loans hand p ps o k =
-    let self : ◌≡◌ {A = ℕ} (one o o.value) 1 = cond-true _ _ _ (eq-eqb o.value o.value refl) in
-    let some : 0 < count_of p o.value = omega (arith, k.balance o.value, times_cons o hand o.value, self) in
-    let r = release p.chunks o.value k.ledger k.free some in
+    let r = let_gone loans hand p ps o k in
     let n : (x : ℕ) → count_of (let_go p o) x + one o x ≡ count_of p x = r.count in
     record {
       ledger = r.ledger;
@@ -130,22 +132,13 @@ letting_go loans hand p ps o k =
 
 pub let_go_count : (loans hand : List PointerOffset) (p : Pub) (ps : Places) (o : PointerOffset) → Books loans (o ∷ hand) p ps
     → (x : ℕ) → count_of (let_go p o) x + one o x ≡ count_of p x
-let_go_count loans hand p ps o k =
-    let self : ◌≡◌ {A = ℕ} (one o o.value) 1 = cond-true _ _ _ (eq-eqb o.value o.value refl) in
-    let some : 0 < count_of p o.value = omega (arith, k.balance o.value, times_cons o hand o.value, self) in
-    (release p.chunks o.value k.ledger k.free some).count
+let_go_count loans hand p ps o k = (let_gone loans hand p ps o k).count
 
 -- ONE HOLDER FOR ANOTHER
 
 pub moving : (loans hand hand' : List PointerOffset) (p : Pub) (ps qs : Places)
     → ((o : ℕ) → held_by p.id qs o + times hand' o ≡ held_by p.id ps o + times hand o) → Books loans hand p ps → Books loans hand' p qs
-moving loans hand hand' p ps qs same k = record {
-  ledger = k.ledger;
-  balance = λ x. omega (arith, k.balance x, same x);
-  free = k.free;
-  alone = k.alone;
-  once = k.once;
-}
+moving loans hand hand' p ps qs same k = search rules
 
 pub moves_keep_the_books : MovesKeepTheBooks
 moves_keep_the_books = record { holding = holding; letting_go = letting_go; moving = moving }

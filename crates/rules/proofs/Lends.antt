@@ -87,7 +87,7 @@ Fine hand g = InOrder g.port.loans hand g
 
 -- the books do not look at the list of loans that the publisher keeps
 pub reloaned : (loans hand : List PointerOffset) (p : Pub) (ps : Places) (l : List PointerOffset) → Books loans hand p ps → Books loans hand (with_loans p l) ps
-reloaned loans hand p ps l k = record { ledger = k.ledger; balance = k.balance; free = k.free; alone = k.alone; once = k.once }
+reloaned loans hand p ps l k = search rules
 
 -- a segment that a memory made is no larger than any
 new_count : (limit : ℕ) (m : Mem) (gs : List Segment) (v start size count : ℕ) → m.segments ≡ gs ++ blank start size count ∷ []
@@ -100,7 +100,7 @@ lending hand limit g asked (Err e) n al s k = k
 lending hand limit g asked (Ok o) n (inl t) s k =
     record {
       books = reloaned _ hand (took g.port n o) g.links (g.port.loans ++ o ∷ []) (taking g.port.loans hand g.port g.links o asked n t k.books);
-      wired = record { own = k.wired.own; apart = k.wired.apart; cover = k.wired.cover; few = k.wired.few };
+      wired = search rules;
     }
 lending hand limit g asked (Ok o) n (inr (m, grown, at, t)) s k =
     let p = g.port in
@@ -109,7 +109,7 @@ lending hand limit g asked (Ok o) n (inr (m, grown, at, t)) s k =
     = growing_by p.loans hand p g.links m grown.start grown.size grown.count grown.segments small.0 small.1 k.books in
     record {
       books = reloaned _ hand (took p n o) g.links (p.loans ++ o ∷ []) (taking p.loans hand (with_mem p m) g.links o asked n t more);
-      wired = record { own = k.wired.own; apart = k.wired.apart; cover = k.wired.cover; few = k.wired.few };
+      wired = search rules;
     }
 
 allotting : (hand : List PointerOffset) (limit : ℕ) (g : Side) (asked align : ℕ) (r : Result PointerOffset LoanError) (h : Side)

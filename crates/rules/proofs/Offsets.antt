@@ -14,6 +14,9 @@ use Rattle.rules.specs.Links.{times}
 abbrev pub one : PointerOffset → ℕ → ℕ
 one x o = cond (eqb x.value o) 1 0
 
+pub one_self : (x : PointerOffset) → one x x.value ≡ 1
+one_self x = search rules
+
 pub times_cons : (x : PointerOffset) (xs : List PointerOffset) (o : ℕ) → times (x ∷ xs) o ≡ one x o + times xs o
 times_cons x xs o = sum_by-cons (λ (y : PointerOffset). cond (eqb y.value o) 1 0) x xs
 

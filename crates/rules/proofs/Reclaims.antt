@@ -137,25 +137,12 @@ reclaimed_loans hand g k = subst (λ l. InOrder l hand (reclaimed_all g)) (sym (
 
 pub filling : (hand : List PointerOffset) (g : Side) (o : PointerOffset) (source : List ℕ) → InOrder g.port.loans hand g
     → InOrder (fill_after g.port o source).loans hand (beside g (fill_after g.port o source))
-filling hand g o source k =
-    let b = k.books in
-    record {
-      books = record { ledger = b.ledger; balance = b.balance; free = b.free; alone = b.alone; once = b.once };
-      wired = record { own = k.wired.own; apart = k.wired.apart; cover = k.wired.cover; few = k.wired.few };
-    }
+filling hand g o source k = search rules
 
 -- a loan comes into hand
 pub in_hand : (hand : List PointerOffset) (p : Pub) (ps : Places) (o : PointerOffset) → is_live p o ≡ true → Books p.loans hand p ps
     → Books (without same_chunk p.loans o) (o ∷ hand) (with_loans p (without same_chunk p.loans o)) ps
-in_hand hand p ps o live k =
-    let fewer : (x : ℕ) → times (without same_chunk p.loans o) x + one o x ≡ times p.loans x = λ x. without_times p.loans o x live in
-    record {
-      ledger = k.ledger;
-      balance = λ x. omega (arith, k.balance x, fewer x, times_cons o hand x);
-      free = k.free;
-      alone = λ x h. k.alone x (omega (arith, fewer x, h));
-      once = k.once;
-    }
+in_hand hand p ps o live k = search (rules, one, without_times, times_cons)
 
 ended : (hand : List PointerOffset) (p : Pub) (ps : Places) (o : PointerOffset) → is_live p o ≡ true → Books p.loans hand p ps
     → Books (unloaned p o).loans hand (unloaned p o) ps
@@ -168,6 +155,6 @@ returning hand g o k =
     let to : Pub → Type 0 = λ q. InOrder q.loans hand (beside g q) in
     ⊎_elim
     (λ yes. subst to (sym (cond-true _ (unloaned p o) p yes))
-    (record { books = ended hand p g.links o yes k.books; wired = record { own = k.wired.own; apart = k.wired.apart; cover = k.wired.cover; few = k.wired.few } }))
+    (record { books = ended hand p g.links o yes k.books; wired = search rules }))
     (λ no. subst to (sym (cond-false _ (unloaned p o) p no)) k)
     (cases_Bool (is_live p o))

@@ -1,7 +1,7 @@
 -- Removing links and closing keep a publisher in order.
-use Rattle.std.proofs.Common.{rules, arith, true, false, cond, ◌≡◌, ℕ, ◌+◌, ◌<◌, eqb, List, ◌++◌, length, get_or, set, is_some, Some, None, Option, sym, refl, ap, ◌∙◌, subst, ⊎_elim, MatchOption}
+use Rattle.std.proofs.Common.{rules, arith, true, false, cond, ◌≡◌, ℕ, ◌+◌, ◌<◌, eqb, List, ◌++◌, length, get_or, set, Some, None, Option, sym, refl, ap, ◌∙◌, subst, ⊎_elim, MatchOption}
 use Rattle.std.specs.List.Sorted.{IsPermutation}
-use Rattle.std.proofs.lemmas.Bool.{cases_eq, false≢true}
+use Rattle.std.proofs.lemmas.Bool.{false≢true}
 use Rattle.std.proofs.lemmas.Option.{none-some}
 use Rattle.std.proofs.lemmas.List.{get_or-set_same, get_or-set_other, length-set}
 use Rattle.std.proofs.lemmas.List.Sorted.{sum_by-IsPermutation}
@@ -19,7 +19,7 @@ use Rattle.rules.proofs.Lists.{within, set_cases}
 use Rattle.rules.proofs.Offsets.{times_append}
 use Rattle.rules.proofs.Safe.{safe_detached}
 use Rattle.rules.proofs.Keep.{moving}
-use Rattle.rules.proofs.Views.{own_details, unmoved_set, none_held, foreign, not_owned_by_other}
+use Rattle.rules.proofs.Views.{unmoved_set, none_held, foreign, not_owned_by_other}
 use Rattle.rules.proofs.Passages.{Passage, Fits, passage_refl, passage_trans, all_go, passage_all, passage_links}
 use Rattle.rules.proofs.Reclaims.{owned_there, held_set, all_id, all_slots, all_loans}
 use Rattle.rules.proofs.Lends.{goes}
@@ -79,11 +79,7 @@ detached_passes p ps i own = passage_links p ps (detached Sender ps i) (safe_det
     (λ a ne. unmoved_set a ps i _ (foreign a (at ps i) _ (not_owned_by_other a p.id (at ps i) ne own) (no_longer_owned a (at ps i))))
   where
     fits : Fits p ps → Fits p (detached Sender ps i)
-    fits f j d e = ⊎_elim
-        (λ same. absurd (false≢true (ap is_some (sym (none_held p.id (at (detached Sender ps i) i) (released_place p.id ps i own)).0
-        ∙ (ap (λ k. own_details p.id (at (detached Sender ps i) k)) (sym same) ∙ e)))))
-        (λ other. f j d (ap (own_details p.id) (sym (get_or-set_other ps i j _ None other)) ∙ e))
-        (cases_eq j i)
+    fits f j d e = grind (arith, none_held p.id (at (detached Sender ps i) i) (released_place p.id ps i own), get_or-set_other, f j d)
 
 pub record Removed (loans hand : List PointerOffset) (g h : Side) : Type 0 where
   pub order : InOrder loans hand h
@@ -107,7 +103,7 @@ remove loans hand g i c os there shuffled k =
       times_append os hand o,
       sum_by-IsPermutation (λ (x : PointerOffset). cond (eqb x.value o) 1 0) (held_at ps c.place) os shuffled,
     ) in
-    let start : Books loans hand q ps = record { ledger = b.ledger; balance = b.balance; free = b.free; alone = b.alone; once = b.once } in
+    let start : Books loans hand q ps = search rules in
     let out : Books loans (os ++ hand) q qs = moving loans hand (os ++ hand) q ps qs same start in
     record {
       order = record {
@@ -144,13 +140,7 @@ emptied_slots loans hand (one r rest) k =
 
 -- the history comes into hand
 pub history_in_hand : (loans hand : List PointerOffset) (p : Pub) (ps : Places) → Books loans hand p ps → Books loans (p.history ++ hand) (shut p) ps
-history_in_hand loans hand p ps k = record {
-  ledger = k.ledger;
-  balance = λ o. omega (arith, k.balance o, times_append p.history hand o);
-  free = k.free;
-  alone = k.alone;
-  once = λ o. omega arith;
-}
+history_in_hand loans hand p ps k = search (rules, times_append)
 
 pub closing : (hand : List PointerOffset) (g : Side) (r : Option CloseError) (h : Side) → Closes g r h → InOrder g.port.loans hand g → InOrder h.port.loans hand h
 closing hand g r h c k =

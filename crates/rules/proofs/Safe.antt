@@ -11,7 +11,7 @@ use Rattle.rules.specs.Pools.{by}
 use Rattle.rules.specs.Links.{Link, Proper, times, attached, never, stepped, fresh, most_returned, send_after, reclaim_after, receive_after, release_after}
 use Rattle.rules.specs.Bank.{Places, at, changed, sent, reclaimed, create_fault, MayTake, created, detached, Move, receive_at, release_at, moved, Turned, with_mark, SetsMark, SoundBank, Unsent, SafeBank, StaysSound, StaysSafe}
 use Rattle.rules.specs.Publisher.{cleared}
-use Rattle.rules.proofs.Banks.{proper_lists, before, changed_at, set_place, left_of, marking_by, sound_changed, sound_sent, sound_reclaimed, sound_moved, sound_created, sound_detached, stays_sound}
+use Rattle.rules.proofs.Banks.{proper_marked, proper_lists, before, changed_at, set_place, left_of, marking_by, sound_changed, sound_sent, sound_reclaimed, sound_moved, sound_created, sound_detached, stays_sound}
 
 -- ONE LINK
 
@@ -94,7 +94,7 @@ safe_created end ps d p e m s = safe_set ps p _ (λ l el. subst Unsent (got l el
 pub safe_marked : (rigged : Bool) (ps : Places) (i : ℕ) (m : Mark) (qs : Places) → SetsMark rigged ps i m qs → SafeBank ps → SafeBank qs
 safe_marked rigged ps i m qs w s =
     marking_by SafeBank (λ rs j x. safe_changed rs j (λ l. with_mark l x) (λ l u. u)
-    (λ k. sound_changed rs j (λ l. with_mark l x) (λ l p. record { buffer = p.buffer; borrow = p.borrow; waiting = p.waiting; borrowed = p.borrowed; returned = p.returned; once = p.once; live = p.live }) (λ l. refl) k))
+    (λ k. sound_changed rs j (λ l. with_mark l x) (proper_marked x) (λ l. refl) k))
     rigged ps i m qs w s
 
 pub bank_stays_sound : StaysSound

@@ -1,7 +1,7 @@
 -- Counting buckets.
 use Rattle.std.proofs.Common.{rules, arith, true, false, Bool, cond, ◌≡◌, ℕ, suc, ◌+◌, ◌<◌, ◌≤◌, ◌&&◌, ◌||◌, eqb, ltb, leb, List, [], ◌∷◌, length, get_or, set, Some, None, sum, sym, refl, ap, ◌∙◌, ⊎_elim}
 use Rattle.std.proofs.lemmas.List.Sums.{sum_by-cons, sum_by-set}
-use Rattle.std.proofs.lemmas.Bool.{ltb-true, cases_Bool, true≢false, false≢true, and_parts}
+use Rattle.std.proofs.lemmas.Bool.{ltb-true, cases_Bool, true≢false, false≢true}
 use Rattle.elementary.specs.declared.error.AllocationError.TheVariants.{SizeTooLarge, AlignmentFailure, OutOfMemory}
 use Rattle.rules.specs.Memory.{Segment, segment_at, no_segment, is_chunk, taken_at, offset_of, marked, some_false, some_free, aligned, else_fault}
 use Rattle.rules.specs.Laws.{trues, as_large, as_large_taken, TakenAtMostCounted, OneIsFree, occurrences, TakenAtMostHeld}
@@ -110,17 +110,16 @@ held_at_most : (holders : List ℕ) (gs : List Segment) (asked : ℕ) → Nameab
     → ((o : ℕ) → taken_at gs o ≡ true → 0 < occurrences holders o) → as_large_taken gs asked ≤ length holders
 held_at_most [] gs asked n h =
     taken_at_most_counted gs [] asked
-    (λ s b. ⊎_elim (λ t. absurd (omega (arith, h (offset_of gs s b) (taken_named gs s b n t)))) (λ f. f) (cases_Bool (get_or (segment_at gs s).taken b false)))
+    (λ s b. grind (arith, h (offset_of gs s b), taken_named gs s b n))
 held_at_most (x ∷ xs) gs asked n h =
     ⊎_elim
     (λ c.
     let rest = held_at_most xs (marked gs x false) asked (nameable_mark gs x false n)
-    (λ o t. let ne : x ≡ o → ⊥ = λ e. false≢true (sym (mark_same gs x false c) ∙ (ap (taken_at (marked gs x false)) e ∙ t)) in
-    later x o xs ne (h o (sym (mark_other gs x false o c ne) ∙ t))) in
+    (λ o t. grind (arith, mark_same gs x false c, mark_other gs x false o c, later x o xs, h o, t)) in
     omega (arith, rest, fewer gs x asked c))
     (λ c.
     let rest = held_at_most xs gs asked n
-    (λ o t. later x o xs (λ e. false≢true (sym c ∙ (ap (is_chunk gs) e ∙ (and_parts _ _ t).0))) (h o t)) in
+    (λ o t. grind (arith, later x o xs, h o, t)) in
     omega (arith, rest))
     (cases_Bool (is_chunk gs x))
 

@@ -1,14 +1,13 @@
 -- What a publisher sees of the bank: its own links, and what they hold.
-use Rattle.std.proofs.Common.{rules, arith, true, false, cond, ◌≡◌, ℕ, suc, List, [], ◌∷◌, set, Some, None, sum_by, Option, refl, ap, ◌∙◌}
+use Rattle.std.proofs.Common.{arith, rules, true, false, cond, ◌≡◌, ℕ, suc, List, [], ◌∷◌, set, Some, None, sum_by, Option, refl, ◌∙◌}
 use Rattle.std.specs.Option.{option_map}
 use Rattle.std.proofs.lemmas.List.Sums.{sum_by-cons}
-use Rattle.std.proofs.lemmas.Bool.{and_parts}
 use Rattle.elementary.specs.Ids.{same_port}
 use Rattle.elementary.specs.declared.port_id.PortId.{PortId}
 use Rattle.elementary.specs.declared.pointer_offset.PointerOffset.{PointerOffset}
 use Rattle.elementary.specs.declared.link.LinkDetails.{LinkDetails}
 use Rattle.rules.specs.Pools.{by}
-use Rattle.rules.specs.Links.{Link, attached}
+use Rattle.rules.specs.Links.{Link}
 use Rattle.rules.specs.Bank.{Places, at, changed}
 use Rattle.rules.specs.Publisher.{Pub}
 use Rattle.rules.specs.Holdings.{owned, holding, HeldSame}
@@ -59,11 +58,7 @@ not_owned_by_other a id x h k = search rules
 -- one publisher's link changed, as no other publisher sees
 pub unmoved_changed : (a id : PortId) (ps : Places) (i : ℕ) (f : Link → Link) → ((l : Link) → (f l).details ≡ l.details) → same_port a id ≡ false → owns id (at ps i) ≡ true
     → Unmoved a ps (changed ps i f)
-unmoved_changed a id ps i f same ne e = unmoved_set a ps i (option_map f (at ps i)) (foreign a (at ps i) (option_map f (at ps i)) (not_owned_by_other a id (at ps i) ne e) (through (at ps i) e))
-  where
-    through : (x : Option Link) → owns id x ≡ true → owns a (option_map f x) ≡ false
-    through None e = refl
-    through (Some l) e = not_mine a id (f l) ne (ap (λ (d : LinkDetails). same_port d.sender_port_id id) (same l) ∙ (and_parts (attached l.sender_end) _ e).1)
+unmoved_changed a id ps i f same ne e = grind (arith, unmoved_set, foreign, not_owned_by_other, not_mine)
 
 -- a change that keeps a link's details and whose it is
 pub own_changed : (f : Link → Link) → ((id : PortId) (l : Link) → own_details id (Some (f l)) ≡ own_details id (Some l)) → (id : PortId) (ps : Places) (i j : ℕ)
