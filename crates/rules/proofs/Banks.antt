@@ -130,12 +130,16 @@ pub sound_moved : (ps : Places) (m : Move) → SoundBank ps → SoundBank (moved
 sound_moved ps (receive_at i) = sound_changed ps i receive_after proper_receive (λ l. refl)
 sound_moved ps (release_at i o) = sound_changed ps i (λ l. release_after l o) (λ l. proper_release l o) (λ l. refl)
 
-sound_moves : (ms : List Move) (ps : Places) → SoundBank ps → SoundBank (fold moved ps ms)
-sound_moves [] ps s = s
-sound_moves (m ∷ ms) ps s = sound_moves ms (moved ps m) (sound_moved ps m s)
+-- what each move keeps, a turn keeps
+pub turned_by : (P : Places → Type 0) → ((ps : Places) (m : Move) → P ps → P (moved ps m)) → (ps qs : Places) → Turned ps qs → P ps → P qs
+turned_by P keep ps qs t k = subst P (sym t.1) (go t.0 ps k)
+  where
+    go : (ms : List Move) (rs : Places) → P rs → P (fold moved rs ms)
+    go [] rs s = s
+    go (m ∷ ms) rs s = go ms (moved rs m) (keep rs m s)
 
 pub sound_turned : (ps qs : Places) → Turned ps qs → SoundBank ps → SoundBank qs
-sound_turned ps qs t s = subst SoundBank (sym t.1) (sound_moves t.0 ps s)
+sound_turned = turned_by SoundBank sound_moved
 
 -- ONE PLACE SET
 

@@ -36,7 +36,7 @@ chunk_within m o e =
 pub within_capacity : WithinCapacity
 within_capacity = grind (arith, chunk_within, chunk_there)
 
--- and before the next one begins
+-- and before the next one of that segment begins
 before : (m : Mem) (o p : ℕ) → is_chunk m.segments o ≡ true → is_chunk m.segments p ≡ true → segment o ≡ segment p
     → bucket m.segments o < bucket m.segments p → place m o + room m o ≤ place m p
 before m o p co cp s lt = search rules

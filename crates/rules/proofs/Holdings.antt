@@ -1,5 +1,5 @@
 -- The calls of a receiver end leave what a link holds for its sender.
-use Rattle.std.proofs.Common.{rules, arith, true, false, Bool, cond, ◌≡◌, ℕ, ◌+◌, ◌&&◌, List, [], ◌∷◌, ◌++◌, set, is_some, Some, None, fold, Option, sym, refl, ap, ◌∙◌, subst}
+use Rattle.std.proofs.Common.{rules, arith, true, false, Bool, cond, ◌≡◌, ℕ, ◌+◌, ◌&&◌, List, [], ◌∷◌, ◌++◌, set, is_some, Some, None, Option, sym, refl, ap, ◌∙◌}
 use Rattle.std.specs.Option.{option_map, option_to_list}
 use Rattle.container.specs.Queue.{oldest, later, without}
 use Rattle.elementary.specs.Ids.{same_chunk}
@@ -9,9 +9,9 @@ use Rattle.elementary.specs.declared.link.End.TheVariants.{Receiver}
 use Rattle.rules.specs.Links.{Link, attached, times, with_lists, can_borrow, receive_after, release_fault, release_after}
 use Rattle.rules.specs.Bank.{Places, at, changed, received, given_back, create_fault, MayTake, created, detached, Move, receive_at, release_at, moved, Turned}
 use Rattle.rules.specs.Holdings.{Keeps, HeldSame, Stirred}
+use Rattle.rules.proofs.Banks.{turned_by, listed_times, releasable}
 use Rattle.rules.proofs.Lists.{set_each}
 use Rattle.rules.proofs.Offsets.{times_append, times_push, times_split, without_times}
-use Rattle.rules.proofs.Banks.{listed_times, releasable}
 use Rattle.rules.proofs.Safe.{safe_moved, safe_detached, safe_created}
 
 pub keeps_refl : (x : Option Link) → Keeps x x
@@ -82,12 +82,8 @@ pub stir_moved : (ps : Places) (m : Move) → Stirred ps (moved ps m)
 stir_moved ps (receive_at i) = record { same = held_received ps i; safe = safe_moved ps (receive_at i) }
 stir_moved ps (release_at i o) = record { same = held_given_back ps i o; safe = safe_moved ps (release_at i o) }
 
-stir_moves : (ms : List Move) (ps : Places) → Stirred ps (fold moved ps ms)
-stir_moves [] ps = stir_refl ps
-stir_moves (m ∷ ms) ps = stir_trans (stir_moved ps m) (stir_moves ms (moved ps m))
-
 pub stir_turned : (ps qs : Places) → Turned ps qs → Stirred ps qs
-stir_turned ps qs t = subst (Stirred ps) (sym t.1) (stir_moves t.0 ps)
+stir_turned ps qs t = turned_by (Stirred ps) (λ rs m s. stir_trans s (stir_moved rs m)) ps qs t (stir_refl ps)
 
 pub stir_detached : (ps : Places) (i : ℕ) → Stirred ps (detached Receiver ps i)
 stir_detached ps i = record { same = held_detached ps i; safe = safe_detached Receiver ps i }

@@ -11,18 +11,18 @@ use Rattle.elementary.specs.declared.pointer_offset.PointerOffset.{PointerOffset
 use Rattle.elementary.specs.declared.link.Mark.{Mark}
 use Rattle.elementary.specs.declared.error.ZeroCopySendError.{ZeroCopySendError}
 use Rattle.elementary.specs.declared.error.ZeroCopySendError.TheVariants as sending
+use Rattle.rules.specs.Books.{owns, mine, held_here, held_by, count_of, Books, Wired, InOrder, CallsKeepOrder}
 use Rattle.rules.specs.Pools.{by}
 use Rattle.rules.specs.Links.{Link, attached, listed, times, marked_send, send_answer, send_after}
 use Rattle.rules.specs.Bank.{Places, at, sends, sent, SoundBank}
 use Rattle.rules.specs.Publisher.{Connection, Pub, Side, slot_at, hold, let_go_if, taken_up}
-use Rattle.rules.specs.Books.{mine, held_here, held_by, count_of, Books, owns, Wired, InOrder, CallsKeepOrder}
+use Rattle.rules.proofs.Views.{kept_by, own_details, unmoved_changed}
 use Rattle.rules.proofs.Offsets.{one, times_cons, times_append, times_push, times_split, absent_times}
 use Rattle.rules.proofs.Banks.{listed_times, accepted}
 use Rattle.rules.proofs.Safe.{safe_sent}
 use Rattle.rules.proofs.Keep.{holding, moving}
-use Rattle.rules.proofs.Views.{own_changed, unmoved_changed}
 use Rattle.rules.proofs.Passages.{Passage, passage_trans, passage_hold, evict, passage_evict, passage_links, fits_unmoved}
-use Rattle.rules.proofs.Reclaims.{held_set, owns_changed, reclaiming, filling, returning}
+use Rattle.rules.proofs.Reclaims.{held_set, reclaiming, filling, returning}
 use Rattle.rules.proofs.Lends.{loaning}
 use Rattle.rules.proofs.Removes.{rewired, place_of, slot_there, removing, closing}
 use Rattle.rules.proofs.Cycles.{beginning, tagging, sweeping}
@@ -86,11 +86,11 @@ one_post loans hand g i o e own takes some few lent k =
       order = record {
         books = evict loans hand qs e (hold p o) out;
         wired = rewired p (let_go_if (hold p o) e) qs (if_id (hold p o) e) (if_slots (hold p o) e)
-            (record { own = λ j c s. owns_changed after (λ _ _. refl) p.id ps i c.place ∙ w.own j c s; apart = w.apart; cover = λ j e'. w.cover j (sym (owns_changed after (λ _ _. refl) p.id ps i j) ∙ e'); few = w.few });
+            (record { own = λ j c s. kept_by (owns p.id) after (λ _. refl) ps i c.place ∙ w.own j c s; apart = w.apart; cover = λ j e'. w.cover j (sym (kept_by (owns p.id) after (λ _. refl) ps i j) ∙ e'); few = w.few });
       };
       passage = passage_trans (passage_hold loans hand ps o p k.books some few)
           (passage_trans
-          (passage_links (hold p o) ps qs (safe_sent ps i o) (fits_unmoved (hold p o) ps qs (λ j. own_changed after (λ _ _. refl) p.id ps i j)) (λ a ne. unmoved_changed a p.id ps i after (λ _. refl) ne own))
+          (passage_links (hold p o) ps qs (safe_sent ps i o) (fits_unmoved (hold p o) ps qs (kept_by (own_details p.id) after (λ _. refl) ps i)) (λ a ne. unmoved_changed a p.id ps i after (λ _. refl) ne own))
           (passage_evict loans hand qs e (hold p o) out));
       slots = if_slots (hold p o) e;
     }

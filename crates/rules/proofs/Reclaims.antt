@@ -7,17 +7,17 @@ use Rattle.container.specs.Queue.{without}
 use Rattle.elementary.specs.Ids.{same_chunk}
 use Rattle.elementary.specs.declared.port_id.PortId.{PortId}
 use Rattle.elementary.specs.declared.pointer_offset.PointerOffset.{PointerOffset}
+use Rattle.rules.specs.Books.{owns, held_here, held_by, Books, InOrder, beside}
 use Rattle.rules.specs.Pools.{by}
 use Rattle.rules.specs.Links.{Link, attached, times}
 use Rattle.rules.specs.Bank.{Places, at, changed}
 use Rattle.rules.specs.Publisher.{Connection, Pub, Side, slot_at, with_loans, let_go, let_go_all, returned_at, cleared, emptied, reclaimed_all, is_live, unloaned, fill_after, return_after}
-use Rattle.rules.specs.Books.{mine, held_here, held_by, Books, owns, InOrder, beside}
-use Rattle.rules.proofs.Lists.{within, set_each}
+use Rattle.rules.proofs.Views.{kept_by, own_details, unmoved_changed}
+use Rattle.rules.proofs.Lists.{within}
 use Rattle.rules.proofs.Offsets.{one, times_cons, times_append, without_times}
 use Rattle.rules.proofs.Banks.{listed_times}
 use Rattle.rules.proofs.Safe.{safe_cleared}
 use Rattle.rules.proofs.Keep.{letting_go, moving}
-use Rattle.rules.proofs.Views.{own_changed, unmoved_changed}
 use Rattle.rules.proofs.Passages.{Passage, passage_refl, passage_trans, all_go, passage_all, passage_links, fits_unmoved}
 
 -- ONE PLACE
@@ -29,13 +29,6 @@ owned_there id ps i e = within ps i None (λ none. false≢true (sym (ap (owns i
 pub held_set : (id : PortId) (ps : Places) (i : ℕ) (x : Option Link) (o : ℕ) → owns id (at ps i) ≡ true
     → held_by id (set ps i x) o + held_here id o (at ps i) ≡ held_by id ps o + held_here id o x
 held_set id ps i x o e = sum_by-set (held_here id o) ps i x None (owned_there id ps i e)
-
-pub owns_changed : (f : Link → Link) → ((id : PortId) (l : Link) → mine id (f l) ≡ mine id l) → (id : PortId) (ps : Places) (i j : ℕ)
-    → owns id (at (changed ps i f) j) ≡ owns id (at ps j)
-owns_changed f keep id ps i = set_each (λ x y. owns id y ≡ owns id x) (λ x. refl) ps i _ None (through (at ps i))
-  where
-    through : (x : Option Link) → owns id (option_map f x) ≡ owns id x
-    through x = search rules
 
 -- what is returned leaves the link
 here_cleared : (id : PortId) (ps : Places) (i o : ℕ) → owns id (at ps i) ≡ true
@@ -84,9 +77,9 @@ emptied_kept loans hand g c e k =
     record {
       books = all_go loans hand qs os p out;
       slots = all_slots os p;
-      owned = owns_changed cleared (λ _ _. refl) p.id ps i;
+      owned = kept_by (owns p.id) cleared (λ _. refl) ps i;
       passage = passage_trans
-          (passage_links p ps qs (safe_cleared ps i) (fits_unmoved p ps qs (λ j. own_changed cleared (λ _ _. refl) p.id ps i j)) (λ a ne. unmoved_changed a p.id ps i cleared (λ _. refl) ne e))
+          (passage_links p ps qs (safe_cleared ps i) (fits_unmoved p ps qs (kept_by (own_details p.id) cleared (λ _. refl) ps i)) (λ a ne. unmoved_changed a p.id ps i cleared (λ _. refl) ne e))
           (passage_all loans hand qs os p out);
     }
 

@@ -1,5 +1,5 @@
 -- Where no sender was ever attached, nothing was ever sent: every call keeps it so.
-use Rattle.std.proofs.Common.{rules, arith, true, false, Bool, ◌≡◌, ℕ, ◌+◌, ◌≤◌, List, [], ◌∷◌, length, set, Some, None, fold, Option, sym, refl, ◌∙◌, subst}
+use Rattle.std.proofs.Common.{rules, arith, true, false, Bool, ◌≡◌, ℕ, ◌+◌, ◌≤◌, [], length, set, Some, None, Option, sym, refl, ◌∙◌, subst}
 use Rattle.std.proofs.lemmas.Bool.{cond-false, cond_both}
 use Rattle.elementary.specs.declared.pointer_offset.PointerOffset.{PointerOffset}
 use Rattle.elementary.specs.declared.link.LinkDetails.{LinkDetails}
@@ -11,7 +11,7 @@ use Rattle.rules.specs.Pools.{by}
 use Rattle.rules.specs.Links.{Link, Proper, times, attached, never, stepped, fresh, most_returned, send_after, reclaim_after, receive_after, release_after}
 use Rattle.rules.specs.Bank.{Places, at, changed, sent, reclaimed, create_fault, MayTake, created, detached, Move, receive_at, release_at, moved, Turned, with_mark, SetsMark, SoundBank, Unsent, SafeBank, StaysSound, StaysSafe}
 use Rattle.rules.specs.Publisher.{cleared}
-use Rattle.rules.proofs.Banks.{proper_marked, proper_lists, before, changed_at, set_place, left_of, marking_by, sound_changed, sound_sent, sound_reclaimed, sound_moved, sound_created, sound_detached, stays_sound}
+use Rattle.rules.proofs.Banks.{turned_by, proper_marked, proper_lists, before, changed_at, set_place, left_of, marking_by, sound_changed, sound_sent, sound_reclaimed, sound_moved, sound_created, sound_detached, stays_sound}
 
 -- ONE LINK
 
@@ -70,12 +70,8 @@ pub safe_moved : (ps : Places) (m : Move) → SafeBank ps → SafeBank (moved ps
 safe_moved ps (receive_at i) = safe_changed ps i receive_after unsent_receive (sound_moved ps (receive_at i))
 safe_moved ps (release_at i o) = safe_changed ps i (λ l. release_after l o) (unsent_release o) (sound_moved ps (release_at i o))
 
-safe_moves : (ms : List Move) (ps : Places) → SafeBank ps → SafeBank (fold moved ps ms)
-safe_moves [] ps s = s
-safe_moves (m ∷ ms) ps s = safe_moves ms (moved ps m) (safe_moved ps m s)
-
 pub safe_turned : (ps qs : Places) → Turned ps qs → SafeBank ps → SafeBank qs
-safe_turned ps qs t s = subst SafeBank (sym t.1) (safe_moves t.0 ps s)
+safe_turned = turned_by SafeBank safe_moved
 
 pub safe_detached : (end : End) (ps : Places) (i : ℕ) → SafeBank ps → SafeBank (detached end ps i)
 safe_detached end ps i s =

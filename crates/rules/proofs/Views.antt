@@ -14,8 +14,6 @@ use Rattle.rules.specs.Holdings.{owned, holding, HeldSame}
 use Rattle.rules.specs.Books.{mine, held_here, held_by, owns, InOrder}
 use Rattle.rules.proofs.Lists.{set_each}
 
--- PORT IDS
-
 -- ONE PLACE
 
 abbrev pub own_details : PortId → Option Link → Option LinkDetails
@@ -60,12 +58,11 @@ pub unmoved_changed : (a id : PortId) (ps : Places) (i : ℕ) (f : Link → Link
     → Unmoved a ps (changed ps i f)
 unmoved_changed a id ps i f same ne e = grind (arith, unmoved_set, foreign, not_owned_by_other, not_mine)
 
--- a change that keeps a link's details and whose it is
-pub own_changed : (f : Link → Link) → ((id : PortId) (l : Link) → own_details id (Some (f l)) ≡ own_details id (Some l)) → (id : PortId) (ps : Places) (i j : ℕ)
-    → own_details id (at (changed ps i f) j) ≡ own_details id (at ps j)
-own_changed f keep id ps i = set_each (λ x y. own_details id y ≡ own_details id x) (λ x. refl) ps i _ None (through (at ps i))
+-- what a change of a link keeps of it, a change of a place keeps of each place
+pub kept_by : {R : Type 0} (h : Option Link → R) (f : Link → Link) → ((l : Link) → h (Some (f l)) ≡ h (Some l)) → (ps : Places) (i j : ℕ) → h (at (changed ps i f) j) ≡ h (at ps j)
+kept_by h f keep ps i = set_each (λ x y. h y ≡ h x) (λ x. refl) ps i _ None (through (at ps i))
   where
-    through : (x : Option Link) → own_details id (option_map f x) ≡ own_details id x
+    through : (x : Option Link) → h (option_map f x) ≡ h x
     through x = search rules
 
 -- WHAT SUBSCRIBERS AND TURNS LEAVE
