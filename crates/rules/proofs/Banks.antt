@@ -17,11 +17,15 @@ use Rattle.elementary.specs.declared.link.End.{End}
 use Rattle.elementary.specs.declared.link.End.TheVariants.{Sender, Receiver}
 use Rattle.elementary.specs.declared.link.Mark.{Mark}
 use Rattle.elementary.specs.declared.error.ZeroCopySendError.TheVariants as sending
+use Rattle.rules.specs.Bank.{Goes, Places, at, changed, sent, reclaimed, first, between, connects, bad_buffer, bad_borrow, create_fault, MayTake, created, kept, detached, Move, receive_at, release_at, moved, Turned, with_mark, SetsMark, SoundBank, Lasts}
 use Rattle.rules.specs.Pools.{by}
 use Rattle.rules.specs.Links.{Link, Proper, attached, never, standing, stepped, alive, fresh, listed, lists, times, with_lists, marked_send, send_answer, send_after, reclaim_after, can_borrow, receive_after, release_fault, release_after, most_returned}
-use Rattle.rules.specs.Bank.{Places, at, changed, sent, reclaimed, first, between, connects, bad_buffer, bad_borrow, create_fault, MayTake, created, kept, detached, Move, receive_at, release_at, moved, Turned, with_mark, SetsMark, SoundBank, Lasts}
 use Rattle.rules.proofs.Lists.{set_cases}
 use Rattle.rules.proofs.Offsets.{times_append, times_push, times_split, later_short, absent_times, without_times, without_length, overflowed_length, overflowed_times}
+
+-- from either of two statements
+pub goes : {A B C : Type 0} (t : Bool) → Goes t A B → (A → C) → (B → C) → C
+goes t h k w = search rules
 
 -- LISTS OF A LINK
 

@@ -1,15 +1,15 @@
 -- What a cycle does to the slots keeps a publisher in order.
-use Rattle.std.proofs.Common.{rules, ◌≡◌, ℕ, ◌+◌, ◌-◌, ◌^◌, ltb, List, length, get_or, set, Some, None, Option, sym, refl, ap, ◌∙◌, subst, ⊎_elim}
+use Rattle.std.proofs.Common.{rules, ◌≡◌, ℕ, ◌+◌, ◌-◌, ◌^◌, ltb, List, length, get_or, set, Some, None, Option, sym, refl, ap, ◌∙◌, subst}
 use Rattle.std.specs.Option.{option_map}
+use Rattle.std.proofs.lemmas.Bool.{cond_both}
 use Rattle.std.proofs.lemmas.List.{length-set, length-map}
-use Rattle.std.proofs.lemmas.Bool.{cases_Bool, cond-true, cond-false}
 use Rattle.std.proofs.Math.ListN.{get_or-map}
 use Rattle.elementary.specs.declared.pointer_offset.PointerOffset.{PointerOffset}
 use Rattle.rules.specs.Bank.{Places}
 use Rattle.rules.specs.Publisher.{Connection, Pub, Side, slot_at, tagged, tag_slot, begun, is_stale, Sweeps, swept, visited}
 use Rattle.rules.specs.Books.{Wired, InOrder, beside}
+use Rattle.rules.proofs.Banks.{goes}
 use Rattle.rules.proofs.Lists.{set_each}
-use Rattle.rules.proofs.Lends.{goes}
 use Rattle.rules.proofs.Removes.{removing}
 
 -- TAGS
@@ -43,18 +43,12 @@ tagging loans hand g i k =
 pub beginning : (loans hand : List PointerOffset) (g : Side) (n : ℕ) → InOrder loans hand g → InOrder loans hand (beside g (begun g.port n))
 beginning loans hand g n k =
     let p = g.port in
-    let b = k.books in
-    let to : Pub → Type 0 = λ q. InOrder loans hand (beside g q) in
-    ⊎_elim
-    (λ yes. subst to (sym (cond-true (ltb p.cycle (2 ^ 64 - 1)) _ _ yes)) (record {
-      books = search rules;
-      wired = search rules;
-    }))
-    (λ no. subst to (sym (cond-false (ltb p.cycle (2 ^ 64 - 1)) _ _ no)) (record {
+    cond_both (ltb p.cycle (2 ^ 64 - 1)) _ _ (λ q. InOrder loans hand (beside g q))
+    (λ _. record { books = search rules; wired = search rules })
+    (λ _. record {
       books = search rules;
       wired = retagged p _ g.links refl (length-map p.slots (option_map (tagged 0))) (λ j. ap places (get_or-map (option_map (tagged 0)) p.slots j None) ∙ tag_places 0 (slot_at p j)) k.wired;
-    }))
-    (cases_Bool (ltb p.cycle (2 ^ 64 - 1)))
+    })
 
 -- SWEEPING
 

@@ -11,10 +11,11 @@ use Rattle.elementary.specs.declared.error.UpdateError.{UpdateError}
 use Rattle.elementary.specs.declared.error.ZeroCopyReceiveError.{ZeroCopyReceiveError}
 use Rattle.elementary.specs.declared.error.ZeroCopyCreationError.{ZeroCopyCreationError}
 use Rattle.rules.specs.Pools.{by}
-use Rattle.rules.specs.Bank.{Goes, Places, receives, received, given_back, MayTake, created, detached, receive_at, release_at, has_data}
+use Rattle.rules.specs.Bank.{Places, receives, received, given_back, MayTake, created, detached, receive_at, release_at, has_data}
 use Rattle.rules.specs.Publisher.{first_of}
-use Rattle.rules.specs.Subscriber.{Stored, Half, with_links, with_expired, key_at, stored_at, has_borrows, dropped, victim, struck, has_room, room_made, listed, busy, key_prepared, prepared, prepare_fault, tag_slot, has_peer, wanted, has_key, stored_new, made_at, MakesBy, Makes, link_fault, Enters, entry_fault, stops, is_stale, taken_out, visited, visit_fault, swept, finished, Cycles, Updates, Translation, left, asks, asked, Way, gives, drops, ends, Walk, passed, walk, Walked, onward, walks, expired_walk, Served, served, serve, receive_after, over, release_after, ends_detached}
+use Rattle.rules.specs.Subscriber.{Stored, Half, with_links, with_expired, key_at, stored_at, has_borrows, dropped, victim, struck, has_room, room_made, listed, busy, key_prepared, prepared, prepare_fault, tag_slot, has_peer, wanted, has_key, stored_new, made_at, MakesBy, link_fault, Enters, entry_fault, stops, is_stale, taken_out, visited, visit_fault, swept, finished, Cycles, Updates, Translation, left, asks, asked, Way, gives, drops, ends, Walk, passed, walk, Walked, onward, walks, expired_walk, Served, served, serve, receive_after, over, release_after, ends_detached}
 use Rattle.rules.specs.Holdings.{Stirred, NothingTakenAway, OnlyStirred}
+use Rattle.rules.proofs.Banks.{goes}
 use Rattle.rules.proofs.Holdings.{stir_refl, stir_trans, stir_moved, stir_detached, stir_created, stir_turned}
 
 module _ (ps : Places) where
@@ -150,28 +151,17 @@ stir_tagged : (s : Half) (i : ℕ) → Stirred s.links (tag_slot s i).links
 stir_tagged s i = half_by s.links (key_at s i) s _ (stir_refl s.links) (λ k. stir_refl s.links)
 
 stir_enters : (s : Half) (e : PublisherDetails) (t : Half) → Enters s e t → Stirred s.links t.links
-stir_enters s e t w = go (has_peer s e) w
-  where
-    p : Half
-    p = prepared s e.place
-
-    make : (b : Bool) → Goes b (t ≡ p) (Makes p e t) → Stirred s.links t.links
-    make true v = half_like s.links p t v (stir_prepared s e.place)
-    make false v = stir_trans (stir_prepared s e.place) (stir_makes (link_fault p e) p e t refl v)
-
-    go : (b : Bool) → Goes b (t ≡ tag_slot s e.place) (Goes (is_some (prepare_fault s e.place)) (t ≡ p) (Makes p e t)) → Stirred s.links t.links
-    go true v = half_like s.links (tag_slot s e.place) t v (stir_tagged s e.place)
-    go false v = make (is_some (prepare_fault s e.place)) v
+stir_enters s e t w =
+    let p = prepared s e.place in
+    goes (has_peer s e) w (λ same. half_like s.links (tag_slot s e.place) t same (stir_tagged s e.place))
+    (λ v. goes (is_some (prepare_fault s e.place)) v (λ same. half_like s.links p t same (stir_prepared s e.place))
+    (λ made. stir_trans (stir_prepared s e.place) (stir_makes (link_fault p e) p e t refl made)))
 
 stir_cycles : (es : List PublisherDetails) (s : Half) (p r : Option UpdateError) (t : Half) → Cycles s es p r t → Stirred s.links t.links
 stir_cycles [] s p r t w = half_like s.links (finished s).half t w.1 (stir_finished s)
 stir_cycles (e ∷ es) s p r t w =
-    stir_trans (stir_enters s e w.0 w.1) (go (stops (entry_fault s e)) w.2 (λ v. stir_cycles es w.0 (first_of p (entry_fault s e)) r t v))
-  where
-    go : (b : Bool) → Goes b ((r ≡ entry_fault s e) × (t ≡ w.0)) (Cycles w.0 es (first_of p (entry_fault s e)) r t)
-        → (Cycles w.0 es (first_of p (entry_fault s e)) r t → Stirred w.0.links t.links) → Stirred w.0.links t.links
-    go true v h = half_like w.0.links w.0 t v.1 (stir_refl w.0.links)
-    go false v h = h v
+    stir_trans (stir_enters s e w.0 w.1)
+    (goes (stops (entry_fault s e)) w.2 (λ v. half_like w.0.links w.0 t v.1 (stir_refl w.0.links)) (λ v. stir_cycles es w.0 (first_of p (entry_fault s e)) r t v))
 
 stir_updates : (known : PortId → Bool) (s : Half) (n : ℕ) (es : List PublisherDetails) (r : Option UpdateError) (t : Half) → Updates known s n es r t → Stirred s.links t.links
 stir_updates known s n es r t w = grind (arith, stir_cycles)

@@ -1,5 +1,5 @@
 -- A loan keeps a publisher's books.
-use Rattle.std.proofs.Common.{rules, arith, true, false, Bool, ◌≡◌, ℕ, zero, suc, ◌+◌, ◌<◌, ◌≤◌, List, [], ◌∷◌, ◌++◌, length, get_or, replicate, Ok, Err, Result, sym, refl, ◌∙◌, subst, inl, inr, ⊎_elim}
+use Rattle.std.proofs.Common.{rules, arith, true, false, ◌≡◌, ℕ, zero, suc, ◌+◌, ◌<◌, ◌≤◌, List, [], ◌∷◌, ◌++◌, length, get_or, replicate, Ok, Err, Result, sym, refl, ◌∙◌, subst, inl, inr, ⊎_elim}
 use Rattle.std.proofs.lemmas.Bool.Decides.{nat_tests}
 use Rattle.std.proofs.lemmas.Bool.{not-true, and_right, cases_eq, ltb-false, and_parts}
 use Rattle.std.proofs.lemmas.List.{get_or_past, get_or_push, get_or_append_left, length_push, length-set, length-replicate}
@@ -9,9 +9,10 @@ use Rattle.elementary.specs.declared.error.AllocationError.{AllocationError}
 use Rattle.elementary.specs.declared.error.LoanError.{LoanError}
 use Rattle.rules.specs.Memory.{Mem, Segment, Sound, no_segment, segment_at, is_chunk, taken_at, free_at, marked, with_segments, blank, Takes, Allocates}
 use Rattle.rules.specs.Counts.{Chunks, count_at, raised, borrowed}
-use Rattle.rules.specs.Bank.{Goes, Places}
+use Rattle.rules.specs.Bank.{Places}
 use Rattle.rules.specs.Publisher.{Pub, Side, with_chunks, with_loans, reclaimed_all, lent, Allots, may_loan, Loans}
 use Rattle.rules.specs.Books.{Ledger, Books, InOrder}
+use Rattle.rules.proofs.Banks.{goes}
 use Rattle.rules.proofs.Marks.{mark_count, mark_chunk, mark_same, mark_other}
 use Rattle.rules.proofs.Offsets.{one, times_push}
 use Rattle.rules.proofs.Recounts.{count_marked}
@@ -116,9 +117,6 @@ allotting : (hand : List PointerOffset) (limit : ℕ) (g : Side) (asked align : 
     → Allots g asked align r h → Sound limit h.port.chunks.mem → Fine hand g → Fine hand h
 allotting hand limit g asked align r h (a, (n, _, al, _, e)) s k =
     subst (Fine hand) (sym e) (lending hand limit g asked a n al (subst (λ (x : Side). Sound limit x.port.chunks.mem) e s) k)
-
-pub goes : {A B C : Type 0} (t : Bool) → Goes t A B → (A → C) → (B → C) → C
-goes t h k w = search rules
 
 pub loaning : (hand : List PointerOffset) (limit : ℕ) (g : Side) (asked align : ℕ) (r : Result PointerOffset LoanError) (h : Side)
     → Loans g asked align r h → Sound limit h.port.chunks.mem → InOrder g.port.loans hand g → InOrder h.port.loans hand h

@@ -24,7 +24,7 @@ use Rattle.rules.proofs.Keep.{holding, moving}
 use Rattle.rules.proofs.Passages.{Passage, passage_trans, passage_hold, evict, passage_evict, passage_links, fits_unmoved}
 use Rattle.rules.proofs.Reclaims.{held_set, reclaiming, filling, returning}
 use Rattle.rules.proofs.Lends.{loaning}
-use Rattle.rules.proofs.Removes.{rewired, place_of, slot_there, removing, closing}
+use Rattle.rules.proofs.Removes.{rewired, slot_there, removing, closing}
 use Rattle.rules.proofs.Cycles.{beginning, tagging, sweeping}
 
 -- ONE LINK
@@ -141,8 +141,7 @@ slots_hold id o (Some d ∷ xs) ps cover =
     )
   where
     later_slot : (j i : ℕ) (c : Connection) → (j ≡ d.place → ⊥) → get_or (Some d ∷ xs) i None ≡ Some c → c.place ≡ j → (i : ℕ) × ((c : Connection) × (get_or xs i None ≡ Some c) × (c.place ≡ j))
-    later_slot j zero c ne e p = absurd (ne (sym p ∙ ap place_of (sym e)))
-    later_slot j (suc i) c ne e p = (i, (c, e, p))
+    later_slot j i c ne e p = search rules
 
     rest : (j : ℕ) → owns id (at (set ps d.place None) j) ≡ true → (i : ℕ) × ((c : Connection) × (get_or xs i None ≡ Some c) × (c.place ≡ j))
     rest j e =

@@ -1,8 +1,8 @@
 -- Reclaiming, filling and returning keep a publisher's books.
-use Rattle.std.proofs.Common.{rules, arith, true, cond, ◌≡◌, ℕ, suc, ◌+◌, ◌<◌, List, [], ◌∷◌, ◌++◌, length, get_or, set, Some, None, fold, Option, sym, refl, ap, ◌∙◌, subst, ⊎_elim}
+use Rattle.std.proofs.Common.{rules, arith, true, cond, ◌≡◌, ℕ, suc, ◌+◌, ◌<◌, List, [], ◌∷◌, ◌++◌, length, get_or, set, Some, None, fold, Option, sym, refl, ap, ◌∙◌, subst}
 use Rattle.std.specs.Option.{option_map}
+use Rattle.std.proofs.lemmas.Bool.{cond_both, and_parts, false≢true}
 use Rattle.std.proofs.lemmas.List.Sums.{sum_by-set}
-use Rattle.std.proofs.lemmas.Bool.{cases_Bool, cond-true, cond-false, and_parts, false≢true}
 use Rattle.container.specs.Queue.{without}
 use Rattle.elementary.specs.Ids.{same_chunk}
 use Rattle.elementary.specs.declared.port_id.PortId.{PortId}
@@ -144,10 +144,5 @@ ended hand p ps o live k = letting_go (without same_chunk p.loans o) hand (with_
 pub returning : (hand : List PointerOffset) (g : Side) (o : PointerOffset) → InOrder g.port.loans hand g
     → InOrder (return_after g.port o).loans hand (beside g (return_after g.port o))
 returning hand g o k =
-    let p = g.port in
-    let to : Pub → Type 0 = λ q. InOrder q.loans hand (beside g q) in
-    ⊎_elim
-    (λ yes. subst to (sym (cond-true _ (unloaned p o) p yes))
-    (record { books = ended hand p g.links o yes k.books; wired = search rules }))
-    (λ no. subst to (sym (cond-false _ (unloaned p o) p no)) k)
-    (cases_Bool (is_live p o))
+    cond_both (is_live g.port o) (unloaned g.port o) g.port (λ q. InOrder q.loans hand (beside g q))
+    (λ yes. record { books = ended hand g.port g.links o yes k.books; wired = search rules }) (λ _. k)

@@ -15,6 +15,7 @@ use Rattle.rules.specs.Links.{Link, stepped, times}
 use Rattle.rules.specs.Bank.{Places, at, kept, detached, held_at}
 use Rattle.rules.specs.Publisher.{Connection, Pub, Side, slot_at, with_slots, let_go_all, Removes, Empties, none, one, shut, Closes}
 use Rattle.rules.specs.Books.{held_here, held_by, Books, owns, Wired, InOrder}
+use Rattle.rules.proofs.Banks.{goes}
 use Rattle.rules.proofs.Lists.{within, set_cases}
 use Rattle.rules.proofs.Offsets.{times_append}
 use Rattle.rules.proofs.Safe.{safe_detached}
@@ -22,7 +23,6 @@ use Rattle.rules.proofs.Keep.{moving}
 use Rattle.rules.proofs.Views.{unmoved_set, none_held, foreign, not_owned_by_other}
 use Rattle.rules.proofs.Passages.{Passage, Fits, passage_refl, passage_trans, all_go, passage_all, passage_links}
 use Rattle.rules.proofs.Reclaims.{owned_there, held_set, all_id, all_slots, all_loans}
-use Rattle.rules.proofs.Lends.{goes}
 
 -- ONE LINK
 

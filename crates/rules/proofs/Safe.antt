@@ -1,5 +1,6 @@
 -- Where no sender was ever attached, nothing was ever sent: every call keeps it so.
 use Rattle.std.proofs.Common.{rules, arith, true, false, Bool, ◌≡◌, ℕ, ◌+◌, ◌≤◌, [], length, set, Some, None, Option, sym, refl, ◌∙◌, subst}
+use Rattle.std.proofs.lemmas.Option.{same_Some}
 use Rattle.std.proofs.lemmas.Bool.{cond-false, cond_both}
 use Rattle.elementary.specs.declared.pointer_offset.PointerOffset.{PointerOffset}
 use Rattle.elementary.specs.declared.link.LinkDetails.{LinkDetails}
@@ -78,11 +79,8 @@ safe_detached end ps i s =
     safe_set ps i _ (λ l e. let c = left_of end (at ps i) l e in subst Unsent (sym c.2) (unsent_detached end c.0 (s.unsent i c.0 c.1))) (sound_detached end ps i) s
 
 pub safe_created : (end : End) (ps : Places) (d : LinkDetails) (p : ℕ) → create_fault end ps d ≡ None → MayTake ps d p → SafeBank ps → SafeBank (created end ps d p)
-safe_created end ps d p e m s = safe_set ps p _ (λ l el. subst Unsent (got l el) (joined (at ps p) refl)) (sound_created end ps d p e m) s
+safe_created end ps d p e m s = safe_set ps p _ (λ l el. subst Unsent (same_Some _ _ el) (joined (at ps p) refl)) (sound_created end ps d p e m) s
   where
-    got : (l : Link) → ◌≡◌ {A = Option Link} (Some (stepped end Attach (by (at ps p) (fresh d) (λ k. k)))) (Some l) → stepped end Attach (by (at ps p) (fresh d) (λ k. k)) ≡ l
-    got l el = cc
-
     joined : (x : Option Link) → at ps p ≡ x → Unsent (stepped end Attach (by x (fresh d) (λ k. k)))
     joined None ex = unsent_attached end (fresh d) (λ _. (refl, refl, refl))
     joined (Some k) ex = unsent_attached end k (s.unsent p k ex)

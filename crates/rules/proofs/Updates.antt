@@ -11,9 +11,9 @@ use Rattle.rules.specs.Links.{times}
 use Rattle.rules.specs.Bank.{Goes, Places, SafeBank}
 use Rattle.rules.specs.Publisher.{Pub, Side, slot_at, Removes, tagged, tag_slot, has_peer, Enters, Entries, is_stale, Sweeps, swept, visited, begun, is_seen, malformed, Cycles, Updates}
 use Rattle.rules.specs.Books.{InOrder, beside}
+use Rattle.rules.proofs.Banks.{goes}
 use Rattle.rules.proofs.Passages.{Passage, passage_refl, passage_trans}
 use Rattle.rules.proofs.Reclaims.{all_slots}
-use Rattle.rules.proofs.Lends.{goes}
 use Rattle.rules.proofs.Removes.{slot_there, removing, removing_passes}
 use Rattle.rules.proofs.Cycles.{tagging, beginning, sweeping}
 use Rattle.rules.proofs.Connects.{Joined, connecting}
@@ -84,7 +84,8 @@ cycling loans hand g n es f h (x, (m, run, sweeps, _)) ok safe single k =
 
 pub updating : (loans hand : List PointerOffset) (g : Side) (n : ℕ) (es : List SubscriberDetails) (f : Option SendError) (h : Side) → Updates g n es f h
     → SafeBank g.links → ((o : ℕ) → times hand o ≤ 1) → InOrder loans hand g → Joined loans hand g h
-updating loans hand g n es f h w safe single k = known (is_seen g.port.seen n) w
+updating loans hand g n es f h w safe single k =
+    goes (is_seen g.port.seen n) w (λ v. still v.1) (λ v. formed (malformed (length g.port.slots) es) refl v)
   where
     still : h ≡ g → Joined loans hand g h
     still same = subst (Joined loans hand g) (sym same) (record { order = k; passage = passage_refl g })
@@ -92,7 +93,3 @@ updating loans hand g n es f h w safe single k = known (is_seen g.port.seen n) w
     formed : (b : Bool) → malformed (length g.port.slots) es ≡ b → Goes b ((f ≡ Some send.MalformedList) × (h ≡ g)) (Cycles g n es f h) → Joined loans hand g h
     formed true bad v = still v.1
     formed false ok v = cycling loans hand g n es f h v ok safe single k
-
-    known : (b : Bool) → Goes b ((f ≡ None) × (h ≡ g)) (Goes (malformed (length g.port.slots) es) ((f ≡ Some send.MalformedList) × (h ≡ g)) (Cycles g n es f h)) → Joined loans hand g h
-    known true v = still v.1
-    known false v = formed (malformed (length g.port.slots) es) refl v
