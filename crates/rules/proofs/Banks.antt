@@ -1,29 +1,31 @@
 -- Every call keeps a bank sound.
-use Rattle.std.proofs.Common.{◌≡◌, ℕ, zero, suc, ◌+◌, ◌<◌, ◌≤◌, Bool, true, false, cond, ◌&&◌, ◌||◌, ltb, ◌⊎◌, List, [], ◌∷◌, ◌++◌, length, set, is_some, is_ok, Some, None, Ok, Err, fold, Option, sym, refl, ap, ◌∙◌, subst, inl, inr, ⊎_elim, arith}
-use Rattle.std.specs.Option.{option_map, option_to_list}
-use Rattle.std.proofs.lemmas.List.{get_or-set_same, get_or-set_other, set_past, length-append, length_push}
-use Rattle.std.proofs.lemmas.Bool.{cases_eq, cases_lt, cases_Bool, and_parts, and_from, eqb-true, or_parts, cond_both, cond-true, cond-false, ltb-true, ltb-false, eq-eqb, ne_eqb, eqb-false, lt-ltb, le-ltb, or_left, or_right, false≢true, true≢false}
-use Rattle.container.specs.Queue.{oldest, later, roomy, overflowed, evicted, has, without}
-use Rattle.elementary.specs.Ids.{same_chunk, same_port}
-use Rattle.elementary.specs.declared.port_id.PortId.{PortId}
+use Rattle.std.proofs.Common.{rules, arith, true, false, Bool, cond, ◌≡◌, ℕ, ◌+◌, ◌<◌, ◌≤◌, ◌&&◌, ◌⊎◌, List, [], ◌∷◌, ◌++◌, length, set, is_some, is_ok, Some, None, Err, fold, Option, sym, refl, ap, ◌∙◌, subst, ⊎_elim}
+use Rattle.std.specs.List.{position_or_len}
+use Rattle.std.specs.Option.{option_to_list}
+use Rattle.std.proofs.lemmas.Bool.Decides.{nat_tests}
+use Rattle.std.proofs.lemmas.List.{get_or_past, length-append, length_push}
+use Rattle.std.proofs.lemmas.List.Sums.{passes_at_first, fails_before_first}
+use Rattle.std.proofs.lemmas.List.Recursion.{is_position_or_len}
+use Rattle.std.proofs.lemmas.Bool.{and_parts, or_parts, cond_both, ltb-true}
+use Rattle.container.specs.Queue.{oldest, later, overflowed, has, without}
+use Rattle.elementary.specs.Ids.{same_chunk}
 use Rattle.elementary.specs.declared.link.Event.{Event}
 use Rattle.elementary.specs.declared.pointer_offset.PointerOffset.{PointerOffset}
 use Rattle.elementary.specs.declared.link.LinkDetails.{LinkDetails}
-use Rattle.elementary.specs.declared.link.Standing.{Standing}
-use Rattle.elementary.specs.declared.link.Standing.TheVariants.{NeverAttached, Attached, Gone}
 use Rattle.elementary.specs.declared.link.Event.TheVariants.{Attach, Detach}
 use Rattle.elementary.specs.declared.link.End.{End}
 use Rattle.elementary.specs.declared.link.End.TheVariants.{Sender, Receiver}
 use Rattle.elementary.specs.declared.link.Mark.{Mark}
-use Rattle.elementary.specs.declared.link.Mark.TheVariants.{Sound, Corrupted, Broken}
 use Rattle.elementary.specs.declared.error.ZeroCopySendError.TheVariants as sending
-use Rattle.elementary.specs.declared.error.ZeroCopyReleaseError.TheVariants as releasing
-use Rattle.elementary.specs.declared.error.ZeroCopyCreationError.{ZeroCopyCreationError}
-use Rattle.elementary.specs.declared.error.ZeroCopyCreationError.TheVariants as creating
+use Rattle.rules.specs.Bank.{Goes, Places, at, changed, sent, reclaimed, first, between, connects, bad_buffer, bad_borrow, create_fault, MayTake, created, kept, detached, Move, receive_at, release_at, moved, Turned, with_mark, SetsMark, SoundBank, Lasts}
 use Rattle.rules.specs.Pools.{by}
-use Rattle.rules.specs.Links.{Link, Proper, attached, never, standing, next_standing, stepped, alive, fresh, listed, lists, times, with_lists, marked_send, send_answer, send_after, reclaim_after, can_borrow, receive_after, release_fault, release_after, most_returned}
-use Rattle.rules.specs.Bank.{Places, at, changed, sent, reclaimed, first, between, connects, join_fault, bad_buffer, bad_borrow, create_fault, MayTake, created, kept, detached, Move, receive_at, release_at, moved, Turned, Goes, settable, with_mark, Marked, SetsMark, SoundBank, Lasts}
-use Rattle.rules.proofs.Offsets.{one, times_append, times_push, times_split, later_short, absent_times, without_times, without_length, overflowed_length, overflowed_times}
+use Rattle.rules.specs.Links.{Link, Proper, attached, never, standing, stepped, alive, fresh, listed, lists, times, with_lists, marked_send, send_answer, send_after, reclaim_after, can_borrow, receive_after, release_fault, release_after, most_returned}
+use Rattle.rules.proofs.Lists.{set_cases}
+use Rattle.rules.proofs.Offsets.{times_append, times_push, times_split, later_short, absent_times, without_times, without_length, overflowed_length, overflowed_times}
+
+-- from either of two statements
+pub goes : {A B C : Type 0} (t : Bool) → Goes t A B → (A → C) → (B → C) → C
+goes t h k w = search rules
 
 -- LISTS OF A LINK
 
@@ -34,31 +36,17 @@ listed_times l o = omega (arith, times_append l.waiting (l.borrowed ++ l.returne
 -- a link with other lists is proper if they are short enough and no offset comes more often
 pub proper_lists : (l : Link) (w b r : List PointerOffset) → Proper l → length w ≤ l.details.buffer_size → length b ≤ l.details.max_borrowed_samples → length r ≤ most_returned l
     → ((o : ℕ) → times w o + (times b o + times r o) ≤ 1) → Proper (with_lists l w b r)
-proper_lists l w b r p hw hb hr once = record {
-  buffer = p.buffer;
-  borrow = p.borrow;
-  waiting = hw;
-  borrowed = hb;
-  returned = hr;
-  once = λ o. omega (arith, listed_times (with_lists l w b r) o, once o);
-  live = p.live;
-}
+proper_lists l w b r p hw hb hr once = search (rules, listed_times)
 
 pub before : (l : Link) → Proper l → (o : ℕ) → times l.waiting o + (times l.borrowed o + times l.returned o) ≤ 1
 before l p o = omega (arith, p.once o, listed_times l o)
 
 -- an offset that is listed is not accepted
 refused : (a : Bool) (m : Mark) (l : Link) (o : PointerOffset) → lists l o ≡ true → is_ok (cond a (marked_send m l o) (Err sending.NotConnected)) ≡ false
-refused false m l o e = refl
-refused true Broken l o e = refl
-refused true Corrupted l o e = refl
-refused true Sound l o e =
-    ap (λ h. is_ok (cond h (Err sending.UsedChunkListFull)
-    (cond (roomy l.details.buffer_size l.waiting || l.details.enable_safe_overflow) (Ok (evicted l.details.buffer_size l.waiting o)) (Err sending.ReceiveBufferFull)))) e
+refused a m l o h = search rules
 
 pub accepted : (l : Link) (o : PointerOffset) → is_ok (send_answer l o) ≡ true → lists l o ≡ false
-accepted l o e =
-    ⊎_elim (λ yes. absurd (false≢true (sym (refused (attached l.sender_end) l.mark l o yes) ∙ e))) (λ no. no) (cases_Bool (lists l o))
+accepted l o e = search rules
 
 -- so it comes once now
 sent_once : (l : Link) (o : PointerOffset) (p : ℕ) → Proper l → lists l o ≡ false
@@ -66,15 +54,7 @@ sent_once : (l : Link) (o : PointerOffset) (p : ℕ) → Proper l → lists l o 
 sent_once l o p proper e =
     let a = or_parts _ _ e in
     let b = or_parts _ _ a.1 in
-    let f = overflowed_times l.details.buffer_size l.waiting o p in
-    ⊎_elim
-    (λ same. let z : ◌≡◌ {A = ℕ} (one o p) 1 = cond-true _ _ _ (eq-eqb _ _ same) in
-    let w : times l.waiting p ≡ 0 = ap (times l.waiting) (sym same) ∙ absent_times l.waiting o a.0 in
-    let x : times l.borrowed p ≡ 0 = ap (times l.borrowed) (sym same) ∙ absent_times l.borrowed o b.0 in
-    let y : times l.returned p ≡ 0 = ap (times l.returned) (sym same) ∙ absent_times l.returned o b.1 in
-    omega arith)
-    (λ other. let z : ◌≡◌ {A = ℕ} (one o p) 0 = cond-false _ _ _ (ne_eqb _ _ other) in omega (arith, f, z, before l proper p))
-    (cases_eq o.value p)
+    grind (arith, nat_tests, overflowed_times l.details.buffer_size l.waiting o p, absent_times l.waiting o a.0, absent_times l.borrowed o b.0, absent_times l.returned o b.1, before l proper p)
 
 proper_send : (l : Link) (o : PointerOffset) → Proper l → Proper (send_after l o)
 proper_send l o p =
@@ -90,8 +70,7 @@ proper_reclaim l p =
     (λ _. proper_lists l l.waiting l.borrowed l.returned p p.waiting p.borrowed p.returned (before l p))
 
 one_more : (xs : List PointerOffset) → length (option_to_list (oldest xs)) ≤ 1
-one_more [] = omega arith
-one_more (x ∷ xs) = omega arith
+one_more xs = search rules
 
 proper_receive : (l : Link) → Proper l → Proper (receive_after l)
 proper_receive l p = go (attached l.receiver_end && can_borrow l) refl
@@ -109,15 +88,7 @@ proper_receive l p = go (attached l.receiver_end && can_borrow l) refl
 
 -- what a release that is not refused found
 pub releasable : (l : Link) (o : PointerOffset) → is_some (release_fault l o) ≡ false → (has same_chunk l.borrowed o ≡ true) × (length l.returned < most_returned l)
-releasable l o e = go (attached l.receiver_end) (has same_chunk l.borrowed o) (ltb (length l.returned) (most_returned l)) refl refl e
-  where
-    go : (a h r : Bool) → has same_chunk l.borrowed o ≡ h → ltb (length l.returned) (most_returned l) ≡ r
-        → is_some (cond (a && h) (cond r None (Some releasing.RetrieveBufferFull)) (Some releasing.NotBorrowed)) ≡ false
-        → (has same_chunk l.borrowed o ≡ true) × (length l.returned < most_returned l)
-    go true true true eh er x = (eh, ltb-true _ _ er)
-    go true true false eh er x = absurd (true≢false x)
-    go true false r eh er x = absurd (true≢false x)
-    go false h r eh er x = absurd (true≢false x)
+releasable l o e = search rules
 
 proper_release : (l : Link) (o : PointerOffset) → Proper l → Proper (release_after l o)
 proper_release l o p = go (is_some (release_fault l o)) refl
@@ -136,18 +107,7 @@ proper_release l o p = go (is_some (release_fault l o)) refl
 -- a place after a change of place i: what f made of it, or as it was
 pub changed_at : (ps : Places) (i : ℕ) (f : Link → Link) (j : ℕ) (l : Link) → at (changed ps i f) j ≡ Some l
     → (k : Link) × (at ps j ≡ Some k) × (((l ≡ f k) × (j ≡ i)) ⊎ (l ≡ k))
-changed_at ps i f j l e =
-    ⊎_elim
-    (λ same. ⊎_elim
-    (λ lt. made (at ps i) refl (sym (get_or-set_same ps i (option_map f (at ps i)) None lt) ∙ (ap (λ k. at (changed ps i f) k) (sym same) ∙ e)) same)
-    (λ past. (l, ap (λ qs. at qs j) (sym (set_past ps i (option_map f (at ps i)) past)) ∙ e, inr refl))
-    (cases_lt i (length ps)))
-    (λ other. (l, sym (get_or-set_other ps i j (option_map f (at ps i)) None other) ∙ e, inr refl))
-    (cases_eq j i)
-  where
-    made : (x : Option Link) → at ps i ≡ x → option_map f x ≡ Some l → j ≡ i → (k : Link) × (at ps j ≡ Some k) × (((l ≡ f k) × (j ≡ i)) ⊎ (l ≡ k))
-    made None ex em same = let z : ◌≡◌ {A = ℕ} 0 1 = cc in absurd (omega arith)
-    made (Some k) ex em same = let el : l ≡ f k = cc in (k, ap (at ps) same ∙ ex, inl (el, same))
+changed_at ps i f j l e = search (rules, set_cases)
 
 -- a change that keeps a link proper and its details
 pub sound_changed : (ps : Places) (i : ℕ) (f : Link → Link) → ((l : Link) → Proper l → Proper (f l)) → ((l : Link) → (f l).details ≡ l.details) → SoundBank ps → SoundBank (changed ps i f)
@@ -174,40 +134,29 @@ pub sound_moved : (ps : Places) (m : Move) → SoundBank ps → SoundBank (moved
 sound_moved ps (receive_at i) = sound_changed ps i receive_after proper_receive (λ l. refl)
 sound_moved ps (release_at i o) = sound_changed ps i (λ l. release_after l o) (λ l. proper_release l o) (λ l. refl)
 
-sound_moves : (ms : List Move) (ps : Places) → SoundBank ps → SoundBank (fold moved ps ms)
-sound_moves [] ps s = s
-sound_moves (m ∷ ms) ps s = sound_moves ms (moved ps m) (sound_moved ps m s)
+-- what each move keeps, a turn keeps
+pub turned_by : (P : Places → Type 0) → ((ps : Places) (m : Move) → P ps → P (moved ps m)) → (ps qs : Places) → Turned ps qs → P ps → P qs
+turned_by P keep ps qs t k = subst P (sym t.1) (go t.0 ps k)
+  where
+    go : (ms : List Move) (rs : Places) → P rs → P (fold moved rs ms)
+    go [] rs s = s
+    go (m ∷ ms) rs s = go ms (moved rs m) (keep rs m s)
 
 pub sound_turned : (ps qs : Places) → Turned ps qs → SoundBank ps → SoundBank qs
-sound_turned ps qs t s = subst SoundBank (sym t.1) (sound_moves t.0 ps s)
+sound_turned = turned_by SoundBank sound_moved
 
 -- ONE PLACE SET
 
 -- two pairs of ports that are equal are so either way round
 between_sym : (d e : LinkDetails) → between d e ≡ true → between e d ≡ true
-between_sym d e b =
-    let p = and_parts _ _ b in
-    and_from _ _ (port_sym d.sender_port_id e.sender_port_id p.0) (port_sym d.receiver_port_id e.receiver_port_id p.1)
-  where
-    port_sym : (x y : PortId) → same_port x y ≡ true → same_port y x ≡ true
-    port_sym x y q =
-        let r = and_parts _ _ q in
-        and_from _ _ (eq-eqb _ _ (sym (eqb-true x.high y.high r.0))) (eq-eqb _ _ (sym (eqb-true x.low y.low r.1)))
+between_sym d e b = search rules
 
 pub set_place : (ps : Places) (i : ℕ) (x : Option Link) (j : ℕ) (l : Link) → at (set ps i x) j ≡ Some l → ((j ≡ i) × (x ≡ Some l)) ⊎ (at ps j ≡ Some l)
-set_place ps i x j l e =
-    ⊎_elim
-    (λ same. ⊎_elim
-    (λ lt. inl (same, sym (get_or-set_same ps i x None lt) ∙ (ap (at (set ps i x)) (sym same) ∙ e)))
-    (λ past. inr (ap (λ qs. at qs j) (sym (set_past ps i x past)) ∙ e))
-    (cases_lt i (length ps)))
-    (λ other. inr (sym (get_or-set_other ps i j x None other) ∙ e))
-    (cases_eq j i)
+set_place ps i x j l e = search (rules, set_cases)
 
 -- events change neither lists nor details
 event_details : (end : End) (e : Event) (l : Link) → (stepped end e l).details ≡ l.details
-event_details Sender e l = refl
-event_details Receiver e l = refl
+event_details end e l = search rules
 
 proper_event : (end : End) (e : Event) (l : Link) → Proper l → alive (stepped end e l) ≡ true → Proper (stepped end e l)
 proper_event Sender e l p a = record { buffer = p.buffer; borrow = p.borrow; waiting = p.waiting; borrowed = p.borrowed; returned = p.returned; once = p.once; live = a }
@@ -230,23 +179,11 @@ sound_set ps i x s proper apart = record {
 -- what a detached end leaves of its place
 pub left_of : (end : End) (x : Option Link) (l : Link) → by x None (λ k. kept (stepped end Detach k)) ≡ Some l
     → (k : Link) × (x ≡ Some k) × (l ≡ stepped end Detach k) × (alive l ≡ true)
-left_of end None l e = let z : ◌≡◌ {A = ℕ} 0 1 = cc in absurd (omega arith)
-left_of end (Some k) l e =
-    ⊎_elim
-    (λ yes. let f : ◌≡◌ {A = Option Link} (Some (stepped end Detach k)) (Some l) = sym (cond-true _ _ _ yes) ∙ e in
-    let el : l ≡ stepped end Detach k = cc in
-    (k, refl, el, ap alive el ∙ yes))
-    (λ no. let f : ◌≡◌ {A = Option Link} None (Some l) = sym (cond-false _ _ _ no) ∙ e in
-    let z : ◌≡◌ {A = ℕ} 0 1 = cc in absurd (omega arith))
-    (cases_Bool (alive (stepped end Detach k)))
+left_of end x l h = search rules
 
 -- another link than the one at place i has other ports than it
 others_apart : (ps : Places) (i : ℕ) (k : Link) → SoundBank ps → at ps i ≡ Some k → (j : ℕ) (m : Link) → (j ≡ i → ⊥) → at ps j ≡ Some m → between m.details k.details ≡ true → ⊥
-others_apart ps i k s ek j m ne em b =
-    ⊎_elim
-    (λ lt. s.pairs j i m k lt em ek b)
-    (λ ge. s.pairs i j k m (omega (arith, ge, ne)) ek em (between_sym m.details k.details b))
-    (cases_lt j i)
+others_apart ps i k s ek j m ne em b = search (rules, between_sym)
 
 pub sound_detached : (end : End) (ps : Places) (i : ℕ) → SoundBank ps → SoundBank (detached end ps i)
 sound_detached end ps i s =
@@ -258,39 +195,19 @@ sound_detached end ps i s =
 
 -- CREATING
 
+-- the first place is the library's
+is_first : (t : Option Link → Bool) (ps : Places) → first t ps ≡ position_or_len t ps
+is_first t = is_position_or_len (first t) t refl (λ p ps. ap (cond (t p) 0) (omega arith))
+
 pub first_found : (t : Option Link → Bool) (ps : Places) → first t ps < length ps → t (at ps (first t ps)) ≡ true
-first_found t [] h = absurd (omega arith)
-first_found t (p ∷ ps) h =
-    ⊎_elim
-    (λ yes. ap (λ n. t (at (p ∷ ps) n)) (cond-true _ 0 (suc (first t ps)) yes) ∙ yes)
-    (λ no. let e = cond-false (t p) 0 (suc (first t ps)) no in
-    ap (λ n. t (at (p ∷ ps) n)) e ∙ first_found t ps (omega (arith, e)))
-    (cases_Bool (t p))
+first_found t ps h = let e = is_first t ps in ap (λ n. t (at ps n)) e ∙ passes_at_first t ps None (omega (arith, e))
 
 pub first_none : (t : Option Link → Bool) (ps : Places) → t None ≡ false → length ps ≤ first t ps → (j : ℕ) → t (at ps j) ≡ false
-first_none t [] n h j = n
-first_none t (p ∷ ps) n h zero =
-    ⊎_elim (λ yes. absurd (omega (arith, cond-true (t p) 0 (suc (first t ps)) yes))) (λ no. no) (cases_Bool (t p))
-first_none t (p ∷ ps) n h (suc j) =
-    ⊎_elim
-    (λ yes. absurd (omega (arith, cond-true (t p) 0 (suc (first t ps)) yes)))
-    (λ no. first_none t ps n (omega (arith, cond-false (t p) 0 (suc (first t ps)) no)) j)
-    (cases_Bool (t p))
+first_none t ps n h j = search (rules, is_first, fails_before_first, get_or_past)
 
 -- an end that was never attached is attached now
 attach_alive : (end : End) (l : Link) → never (standing end l) ≡ true → alive (stepped end Attach l) ≡ true
-attach_alive Sender l e = or_left _ _ (go l.sender_end e)
-  where
-    go : (s : Standing) → never s ≡ true → attached (next_standing s Attach) ≡ true
-    go NeverAttached x = refl
-    go Attached x = absurd (false≢true x)
-    go Gone x = absurd (false≢true x)
-attach_alive Receiver l e = or_right _ _ (go l.receiver_end e)
-  where
-    go : (s : Standing) → never s ≡ true → attached (next_standing s Attach) ≡ true
-    go NeverAttached x = refl
-    go Attached x = absurd (false≢true x)
-    go Gone x = absurd (false≢true x)
+attach_alive end l h = search rules
 
 -- what is known where no cause applies
 pub record Creatable (end : End) (ps : Places) (d : LinkDetails) : Type 0 where
@@ -298,40 +215,11 @@ pub record Creatable (end : End) (ps : Places) (d : LinkDetails) : Type 0 where
   pub joined : first (connects d) ps < length ps → (l : Link) → at ps (first (connects d) ps) ≡ Some l → never (standing end l) ≡ true
   pub borrow : length ps ≤ first (connects d) ps → bad_borrow d ≡ false
 
-some_fault : (x : Option ZeroCopyCreationError) (e : ZeroCopyCreationError) → Some e ≡ x → x ≡ None → ⊥
-some_fault x e a b = let z : ◌≡◌ {A = ℕ} 0 1 = cc in omega arith
-
 pub creatable : (end : End) (ps : Places) (d : LinkDetails) → create_fault end ps d ≡ None → Creatable end ps d
-creatable end ps d e = record {
-  buffer = ⊎_elim (λ bad. absurd (some_fault _ _ (sym (cond-true (bad_buffer d) _ _ bad)) e)) (λ ok. ok) (cases_Bool (bad_buffer d));
-  joined = λ lt l el. ⊎_elim (λ yes. yes)
-      (λ no. absurd (some_fault _ creating.AnotherInstanceIsAlreadyConnected
-      (sym (cond-false _ _ _ (good e) ∙ (cond-true _ _ _ (lt-ltb _ _ lt) ∙ (ap (λ x. by x None (join_fault end d)) el ∙ cond-false _ _ _ no)))) e))
-      (cases_Bool (never (standing end l)));
-  borrow = λ le. ⊎_elim
-      (λ bad. absurd (some_fault _ creating.IncompatibleSettings (sym (cond-false _ _ _ (good e) ∙ (cond-false _ _ _ (le-ltb _ _ le) ∙ cond-true _ _ _ bad))) e))
-      (λ ok. ok) (cases_Bool (bad_borrow d));
-}
-  where
-    good : create_fault end ps d ≡ None → bad_buffer d ≡ false
-    good f = ⊎_elim (λ bad. absurd (some_fault _ _ (sym (cond-true (bad_buffer d) _ _ bad)) f)) (λ ok. ok) (cases_Bool (bad_buffer d))
-
--- a new link with one end
-never_fresh : (end : End) (d : LinkDetails) → never (standing end (fresh d)) ≡ true
-never_fresh Sender d = refl
-never_fresh Receiver d = refl
+creatable end ps d e = search rules
 
 proper_fresh : (end : End) (d : LinkDetails) → bad_buffer d ≡ false → bad_borrow d ≡ false → Proper (stepped end Attach (fresh d))
-proper_fresh end d b r =
-    let p = or_parts _ _ b in
-    let some : d.buffer_size ≡ 0 → ⊥ = eqb-false d.buffer_size 0 p.0 in
-    let few = ltb-false 8 d.buffer_size p.1 in
-    let low = ltb-false 8 d.max_borrowed_samples r in
-    made end (omega (arith, some), few) low (attach_alive end (fresh d) (never_fresh end d))
-  where
-    made : (f : End) → (1 ≤ d.buffer_size) × (d.buffer_size ≤ 8) → d.max_borrowed_samples ≤ 8 → alive (stepped f Attach (fresh d)) ≡ true → Proper (stepped f Attach (fresh d))
-    made Sender x y a = record { buffer = x; borrow = y; waiting = omega arith; borrowed = omega arith; returned = omega arith; once = λ o. omega arith; live = a }
-    made Receiver x y a = record { buffer = x; borrow = y; waiting = omega arith; borrowed = omega arith; returned = omega arith; once = λ o. omega arith; live = a }
+proper_fresh end d b r = search rules
 
 -- the link of these ports, joined
 sound_joined : (end : End) (ps : Places) (p : ℕ) (k : Link) → SoundBank ps → at ps p ≡ Some k → never (standing end k) ≡ true → SoundBank (set ps p (Some (stepped end Attach k)))
@@ -343,41 +231,19 @@ sound_joined end ps p k s e n =
 
 sound_made : (end : End) (ps : Places) (p : ℕ) (d : LinkDetails) → SoundBank ps → bad_buffer d ≡ false → bad_borrow d ≡ false → length ps ≤ first (connects d) ps
     → SoundBank (set ps p (Some (stepped end Attach (fresh d))))
-sound_made end ps p d s b r le =
-    sound_set ps p _ s
-    (λ l el. let m : l ≡ stepped end Attach (fresh d) = cc in subst Proper (sym m) (proper_fresh end d b r))
-    (λ l j m el ne em bt. let q : l ≡ stepped end Attach (fresh d) = cc in
-    false≢true (sym (first_none (connects d) ps refl le j) ∙ (ap (connects d) em ∙ (ap (between m.details) (sym (ap (λ (z : Link). z.details) q ∙ event_details end Attach (fresh d))) ∙ bt))))
-
-pub found_link : (d : LinkDetails) (x : Option Link) → connects d x ≡ true → (k : Link) × (x ≡ Some k)
-found_link d None e = absurd (false≢true e)
-found_link d (Some k) e = (k, refl)
+sound_made end ps p d s b r le = grind (arith, sound_set, proper_fresh, first_none)
 
 pub sound_created : (end : End) (ps : Places) (d : LinkDetails) (p : ℕ) → create_fault end ps d ≡ None → MayTake ps d p → SoundBank ps → SoundBank (created end ps d p)
-sound_created end ps d p e m s =
-    let c = creatable end ps d e in
-    ⊎_elim
-    (λ lt. let at_it = m.joins lt in
-    let f = found_link d (at ps (first (connects d) ps)) (first_found (connects d) ps lt) in
-    let here : at ps p ≡ Some f.0 = ap (at ps) at_it ∙ f.1 in
-    subst (λ x. SoundBank (set ps p (Some (stepped end Attach (by x (fresh d) (λ l. l)))))) (sym here)
-    (sound_joined end ps p f.0 s here (c.joined lt f.0 f.1)))
-    (λ le. subst (λ x. SoundBank (set ps p (Some (stepped end Attach (by x (fresh d) (λ l. l)))))) (sym (m.takes le))
-    (sound_made end ps p d s c.buffer (c.borrow le) le))
-    (cases_lt (first (connects d) ps) (length ps))
+sound_created end ps d p e m s = grind (arith, nat_tests, first_found, sound_joined, sound_made)
 
 -- A RIG'S MARKS
 
 -- a change that a rig may make, or none
 pub marking_by : (P : Places → Type 0) → ((ps : Places) (i : ℕ) (x : Mark) → P ps → P (changed ps i (λ l. with_mark l x)))
     → (rigged : Bool) (ps : Places) (i : ℕ) (m : Mark) (qs : Places) → SetsMark rigged ps i m qs → P ps → P qs
-marking_by P keep rigged ps i m qs w k = go (settable rigged ps i) w
-  where
-    go : (b : Bool) → Goes b ((x : Mark) × Marked m x × (qs ≡ changed ps i (λ l. with_mark l x))) (qs ≡ ps) → P qs
-    go true (x, _, e) = subst P (sym e) (keep ps i x k)
-    go false e = subst P (sym e) k
+marking_by P keep rigged ps i m qs w k = search rules
 
-proper_marked : (x : Mark) (l : Link) → Proper l → Proper (with_mark l x)
+pub proper_marked : (x : Mark) (l : Link) → Proper l → Proper (with_mark l x)
 proper_marked x l p = record { buffer = p.buffer; borrow = p.borrow; waiting = p.waiting; borrowed = p.borrowed; returned = p.returned; once = p.once; live = p.live }
 
 pub sound_marked : (rigged : Bool) (ps : Places) (i : ℕ) (m : Mark) (qs : Places) → SetsMark rigged ps i m qs → SoundBank ps → SoundBank qs

@@ -1,148 +1,61 @@
 -- What an offset names: the segment and the bucket of a chunk, and the bytes that it has.
-use Rattle.std.proofs.Common.{◌≡◌, ℕ, ◌+◌, ◌*◌, ◌/◌, ◌%◌, ◌^◌, ◌<◌, ◌≤◌, Bool, true, false, cond, not, List, length, get_or, set, Some, None, Option, sym, refl, ap, ◌∙◌, inl, inr, ⊎_elim, mul-le-mul_right, mul_comm, add-mul, mul-div_cancel, arith}
+use Rattle.std.proofs.Common.{rules, arith, true, false, cond, ◌≡◌, ℕ, ◌+◌, ◌*◌, ◌^◌, ◌<◌, ◌≤◌, List, length, get_or, set, Some, None, Option, ap, mul-div_cancel}
 use native.Mathlib.Nat.{mul-mod_left}
-use Rattle.std.proofs.lemmas.List.{get_or_past}
-use Rattle.std.proofs.lemmas.Nat.{div-add-mod', div-mul-add, mod-mul-add}
-use Rattle.std.proofs.lemmas.Bool.{and_parts, and_from, eqb-true, eq-eqb, ltb-true, lt-ltb, cases_lt, cases_order, cases_Bool, cond-false}
 use Rattle.std.proofs.lemmas.Bool.Decides.{nat_tests}
-use Rattle.elementary.specs.Ids.{packed, distance, segment}
-use Rattle.rules.specs.Memory.{Mem, Segment, Sound, segment_at, no_segment, home, bucket, is_chunk, bucket_at, offset_of, end_of, start_of, with_segments, remarked, Takes}
+use Rattle.std.proofs.lemmas.Nat.{row_fits_turned, div-mul-add, mod-mul-add}
+use Rattle.elementary.specs.Ids.{distance, segment}
+use Rattle.rules.specs.Memory.{Mem, Segment, Sound, segment_at, no_segment, home, bucket, is_chunk, offset_of, end_of, start_of, with_segments, remarked, Takes}
 use Rattle.rules.specs.Bytes.{place, room}
 use Rattle.rules.specs.Laws.{NoByteShared, WithinCapacity}
+use Rattle.rules.proofs.Lists.{within}
 
 -- a chunk's distance is that of its bucket, which is there
 pub chunk_bucket : (gs : List Segment) (o : ℕ) → is_chunk gs o ≡ true
     → (distance o ≡ bucket gs o * (home gs o).size) × (bucket gs o < length (home gs o).taken)
-chunk_bucket gs o e =
-    let a = and_parts _ _ e in
-    let z : distance o % (home gs o).size ≡ 0 = eqb-true _ _ a.0 in
-    let d = div-add-mod' (distance o) (home gs o).size in
-    (omega arith, ltb-true _ _ a.1)
+chunk_bucket gs o e = search rules
 
 pub chunk_there : (gs : List Segment) (o : ℕ) → is_chunk gs o ≡ true → segment o < length gs
-chunk_there gs o e =
-    ⊎_elim (λ h. h)
-    (λ past. absurd (omega (arith, (chunk_bucket gs o e).1, ap (λ (g : Segment). length g.taken) (get_or_past gs (segment o) no_segment past))))
-    (cases_lt (segment o) (length gs))
-
--- an offset is its two parts
-pub unpacked : (o : ℕ) → packed (distance o) (segment o) ≡ o
-unpacked o = div-add-mod' o 256
+chunk_there gs o e = within gs (segment o) no_segment (λ none. omega (arith, (chunk_bucket gs o e).1, ap (λ (g : Segment). length g.taken) none))
 
 -- so two chunks of one segment and one bucket are one chunk
 pub same_bucket : (gs : List Segment) (o p : ℕ) → is_chunk gs o ≡ true → is_chunk gs p ≡ true → segment o ≡ segment p → bucket gs o ≡ bucket gs p → o ≡ p
-same_bucket gs o p co cp s b =
-    let h = ap (λ k. (segment_at gs k).size) s in
-    let d : distance o ≡ distance p =
-    (chunk_bucket gs o co).0 ∙ (ap (λ x. x * (home gs o).size) b ∙ (ap (λ z. bucket gs p * z) h ∙ sym (chunk_bucket gs p cp).0)) in
-    sym (unpacked o) ∙ (ap (λ x. packed x (segment o)) d ∙ (ap (packed (distance p)) s ∙ unpacked p))
+same_bucket gs o p co cp s b = search rules
 
 -- every bucket has an offset that names it
 pub named : (gs : List Segment) (s b : ℕ) → s < 256 → 0 < (segment_at gs s).size → b < length (segment_at gs s).taken
     → (segment (offset_of gs s b) ≡ s) × (bucket gs (offset_of gs s b) ≡ b) × (is_chunk gs (offset_of gs s b) ≡ true)
-named gs s b h pos lt =
-    let z = (segment_at gs s).size in
-    let es : segment (offset_of gs s b) ≡ s = mod-mul-add (b * z) 256 s h in
-    let ed : distance (offset_of gs s b) ≡ b * z = div-mul-add (b * z) 256 s h in
-    let eh : home gs (offset_of gs s b) ≡ segment_at gs s = ap (segment_at gs) es in
-    let eb : bucket gs (offset_of gs s b) ≡ b =
-    ap (λ (g : Segment). distance (offset_of gs s b) / g.size) eh ∙ (ap (λ d. d / z) ed ∙ mul-div_cancel b pos) in
-    let em : distance (offset_of gs s b) % (home gs (offset_of gs s b)).size ≡ 0 =
-    ap (λ (g : Segment). distance (offset_of gs s b) % g.size) eh ∙ (ap (λ d. d % z) ed ∙ mul-mod_left b z) in
-    let en = ap (λ (g : Segment). length g.taken) eh in
-    (es, eb, and_from _ _ (eq-eqb _ _ em) (lt-ltb _ _ (omega arith)))
+named gs s b h pos lt = grind (arith, nat_tests, mod-mul-add, div-mul-add, mul-div_cancel, mul-mod_left)
 
--- a bucket ends before the next begins, and within its segment
-row : (b n z : ℕ) → b < n → b * z + z ≤ n * z
-row b n z h =
-    let e : (b + 1) * z ≤ n * z = mul-le-mul_right z (omega arith) in
-    omega (arith, e, add-mul b 1 z)
-
+-- a bucket ends within its segment
 pub chunk_within : (m : Mem) (o : ℕ) → is_chunk m.segments o ≡ true → place m o + room m o ≤ end_of (home m.segments o)
 chunk_within m o e =
     let gs = m.segments in
     let c = chunk_bucket gs o e in
-    let r = row (bucket gs o) (length (home gs o).taken) (home gs o).size c.1 in
-    omega (arith, r, c.0, mul_comm (home gs o).size (length (home gs o).taken))
+    omega (arith, row_fits_turned (bucket gs o) (home gs o).size (home gs o).size (length (home gs o).taken) c.1 (omega arith), c.0)
 
 pub within_capacity : WithinCapacity
-within_capacity limit m o sound e =
-    let w = chunk_within m o e in
-    let s = (sound.shaped (segment o) (chunk_there m.segments o e)).within in
-    omega arith
+within_capacity = grind (arith, chunk_within, chunk_there)
 
--- two chunks of one segment
+-- and before the next one of that segment begins
 before : (m : Mem) (o p : ℕ) → is_chunk m.segments o ≡ true → is_chunk m.segments p ≡ true → segment o ≡ segment p
     → bucket m.segments o < bucket m.segments p → place m o + room m o ≤ place m p
-before m o p co cp s lt =
-    let gs = m.segments in
-    let r = row (bucket gs o) (bucket gs p) (home gs o).size lt in
-    let h : home gs o ≡ home gs p = ap (segment_at gs) s in
-    let e : bucket gs p * (home gs o).size ≡ distance p = ap (λ (g : Segment). bucket gs p * g.size) h ∙ sym (chunk_bucket gs p cp).0 in
-    omega (arith, r, e, (chunk_bucket gs o co).0, ap (λ (g : Segment). g.start) h)
+before m o p co cp s lt = search rules
 
 pub no_byte_shared : NoByteShared
 no_byte_shared limit m o p sound co cp ne =
-    let gs = m.segments in
-    let wo = chunk_within m o co in
-    let wp = chunk_within m p cp in
-    ⊎_elim
-    (λ same. ⊎_elim
-    (λ b. absurd (ne (same_bucket gs o p co cp same b)))
-    (⊎_elim (λ lt. inl (before m o p co cp same lt)) (λ gt. inr (before m p o cp co (sym same) gt)))
-    (cases_order (bucket gs o) (bucket gs p)))
-    (⊎_elim
-    (λ lt. ⊎_elim (λ a. inl (omega arith)) (λ a. inr (omega arith)) (sound.apart (segment o) (segment p) lt (chunk_there gs p cp)))
-    (λ gt. ⊎_elim (λ a. inr (omega arith)) (λ a. inl (omega arith)) (sound.apart (segment p) (segment o) gt (chunk_there gs o co))))
-    (cases_order (segment o) (segment p))
-
--- a segment whose buckets have no size is not there, so that no offset names a bucket of it
-pub sizeless : (limit : ℕ) (m : Mem) (o : ℕ) → Sound limit m → (home m.segments o).size ≡ 0 → bucket_at m.segments o ≡ None
-sizeless limit m o sound z =
-    ⊎_elim
-    (λ c. absurd (omega (arith, (sound.shaped (segment o) (chunk_there m.segments o c)).fair.1)))
-    (λ c. cond-false _ _ _ c)
-    (cases_Bool (is_chunk m.segments o))
+    grind (arith, chunk_within, same_bucket, before, chunk_there, sound.apart (segment o) (segment p), sound.apart (segment p) (segment o))
 
 -- a segment's start is a small number
 pub start_low : (limit : ℕ) (m : Mem) (s x : ℕ) → Sound limit m → Some x ≡ start_of m.segments s → x < 2 ^ 63
-start_low limit m s x sound e =
-    let found : (s < length m.segments) × (x ≡ (segment_at m.segments s).start) = grind (arith, nat_tests) in
-    omega (arith, found.1, (sound.shaped s found.0).low)
-
--- an offset of a segment that has no start names nothing
-pub startless : (gs : List Segment) (o : ℕ) → None ≡ start_of gs (segment o) → is_chunk gs o ≡ false
-startless gs o e =
-    ⊎_elim
-    (λ c. let h = chunk_there gs o c in absurd (grind (arith, nat_tests)))
-    (λ c. c)
-    (cases_Bool (is_chunk gs o))
+start_low limit m s x sound e = search rules
 
 -- what a search for a chunk's bytes found lies within the capacity
 pub located : (limit : ℕ) (m : Mem) (o start size : ℕ) → Sound limit m
     → ◌≡◌ {A = Option (ℕ × ℕ)} (Some (start, size)) (cond (is_chunk m.segments o) (Some (place m o, room m o)) None) → start + size ≤ m.capacity
-located limit m o start size sound e = go (is_chunk m.segments o) refl e
-  where
-    go : (b : Bool) → is_chunk m.segments o ≡ b → ◌≡◌ {A = Option (ℕ × ℕ)} (Some (start, size)) (cond b (Some (place m o, room m o)) None) → start + size ≤ m.capacity
-    go true c f =
-        let both : ◌≡◌ {A = ℕ × ℕ} (start, size) (place m o, room m o) = cc in
-        omega (arith, within_capacity limit m o sound c, ap (λ (x : ℕ × ℕ). x.0) both, ap (λ (x : ℕ × ℕ). x.1) both)
-    go false c f = let z : ◌≡◌ {A = ℕ} 0 1 = cc in absurd (omega arith)
+located limit m o start size sound e = grind (arith, within_capacity limit m o sound)
 
 -- to take the free bucket b of segment s
 pub takes_bucket : (m n : Mem) (asked s b : ℕ) → s < 256 → 0 < (segment_at m.segments s).size → b < length (segment_at m.segments s).taken
     → get_or (segment_at m.segments s).taken b false ≡ false → asked ≤ (segment_at m.segments s).size
     → n ≡ with_segments m (set m.segments s (remarked (segment_at m.segments s) b true)) → Takes m asked (offset_of m.segments s b) n
-takes_bucket m n asked s b h pos lt free large after =
-    let gs = m.segments in
-    let o = offset_of gs s b in
-    let e = named gs s b h pos lt in
-    let eh : home gs o ≡ segment_at gs s = ap (segment_at gs) e.0 in
-    record {
-      free = and_from _ _ e.2 (ap (λ (g : Segment). not (get_or g.taken (bucket gs o) false)) eh ∙ (ap (λ k. not (get_or (segment_at gs s).taken k false)) e.1 ∙ ap not free));
-      large = omega (arith, ap (λ (g : Segment). g.size) eh);
-      after = after ∙ ap (with_segments m)
-          (sym (ap (λ k. set gs k (remarked (home gs o) (bucket gs o) true)) e.0
-          ∙ (ap (λ (g : Segment). set gs s (remarked g (bucket gs o) true)) eh
-          ∙ ap (λ k. set gs s (remarked (segment_at gs s) k true)) e.1)));
-    }
+takes_bucket m n asked s b h pos lt free large after = search (rules, named)

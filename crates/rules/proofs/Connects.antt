@@ -1,29 +1,26 @@
 -- A new link, with the history that it gets, keeps a publisher in order.
-use Rattle.std.proofs.Common.{◌≡◌, ℕ, zero, suc, ◌+◌, ◌-◌, ◌<◌, ◌≤◌, true, false, ◌&&◌, eqb, ltb, ◌⊎◌, List, [], ◌∷◌, ◌++◌, length, get_or, drop, set, is_some, Some, None, Ok, Err, fold, Option, Result, sym, refl, ap, ◌∙◌, subst, inl, inr, ⊎_elim, arith, MatchOption}
+use Rattle.std.proofs.Common.{rules, arith, true, false, cond, ◌≡◌, ℕ, ◌+◌, ◌-◌, ◌<◌, ◌≤◌, eqb, ◌⊎◌, List, [], ◌∷◌, length, get_or, set, is_some, Some, None, Ok, Err, fold, Option, Result, sym, refl, ap, ◌∙◌, subst, ⊎_elim, MatchOption}
+use Rattle.std.proofs.lemmas.Bool.Decides.{nat_tests}
+use Rattle.std.proofs.lemmas.List.Sums.{sum_by-take-drop, sum_by-set}
 use Rattle.std.proofs.lemmas.List.{get_or-set_same, get_or-set_other, length-set}
-use Rattle.std.proofs.lemmas.List.Sums.{sum_by-set}
-use Rattle.std.proofs.lemmas.Bool.{cases_Bool, cases_eq, cases_lt, cond-true, cond-false, lt-ltb, ltb-false, and_parts, and_from, eq-eqb, eqb-true, false≢true}
-use Rattle.elementary.specs.Ids.{same_port}
+use Rattle.std.proofs.lemmas.Bool.{cases_eq, cond-true, and_parts, false≢true}
 use Rattle.elementary.specs.declared.port_id.PortId.{PortId}
 use Rattle.elementary.specs.declared.pointer_offset.PointerOffset.{PointerOffset}
 use Rattle.elementary.specs.declared.port_list.SubscriberDetails.{SubscriberDetails}
 use Rattle.elementary.specs.declared.link.LinkDetails.{LinkDetails}
-use Rattle.elementary.specs.declared.link.Standing.{Standing}
-use Rattle.elementary.specs.declared.link.Standing.TheVariants.{NeverAttached, Attached, Gone}
 use Rattle.elementary.specs.declared.link.Event.TheVariants.{Attach}
 use Rattle.elementary.specs.declared.link.End.TheVariants.{Sender}
 use Rattle.elementary.specs.declared.error.ZeroCopySendError.{ZeroCopySendError}
 use Rattle.elementary.specs.declared.error.ZeroCopyCreationError.{ZeroCopyCreationError}
-use Rattle.elementary.specs.declared.error.ZeroCopyCreationError.TheVariants as creating
 use Rattle.rules.specs.Pools.{by}
-use Rattle.rules.specs.Links.{Link, attached, never, next_standing, stepped, fresh, listed, times}
-use Rattle.rules.specs.Bank.{Places, at, sends, between, agree, connects, join_fault, first, create_fault, MayTake, SafeBank}
+use Rattle.rules.specs.Links.{Link, attached, stepped, fresh, listed, times}
+use Rattle.rules.specs.Bank.{Places, at, sends, create_fault, MayTake, SafeBank}
 use Rattle.rules.specs.Publisher.{Connection, Side, slot_at, with_slots, wanted, connect_fault, taken_up, handed, last_of, connected, Connects, reclaimed_all}
 use Rattle.rules.specs.Books.{mine, held_here, held_by, owns, Wired, InOrder}
-use Rattle.rules.proofs.Offsets.{one, times_cons}
-use Rattle.rules.proofs.Banks.{creatable, found_link, first_found}
-use Rattle.rules.proofs.Safe.{safe_created, never_attached}
-use Rattle.rules.proofs.Views.{same_port_refl, own_details, none_held, foreign, not_mine, unmoved_set}
+use Rattle.rules.proofs.Offsets.{one_self, times_cons}
+use Rattle.rules.proofs.Banks.{creatable, first_found}
+use Rattle.rules.proofs.Safe.{safe_created}
+use Rattle.rules.proofs.Views.{none_held, foreign, not_mine, unmoved_set}
 use Rattle.rules.proofs.Passages.{Passage, Fits, shape_refl, passage_refl, passage_trans}
 use Rattle.rules.proofs.Reclaims.{reclaiming, reclaiming_passes, reclaimed_slots}
 use Rattle.rules.proofs.Posts.{Posted, posted}
@@ -38,49 +35,9 @@ record Fresh (id : PortId) (d : LinkDetails) (x : Option Link) (l : Link) : Type
   buffer : l.details.buffer_size ≡ d.buffer_size
   borrow : l.details.max_borrowed_samples ≡ d.max_borrowed_samples
 
-attach_never : (s : Standing) → never s ≡ true → attached (next_standing s Attach) ≡ true
-attach_never NeverAttached e = refl
-attach_never Attached e = absurd (false≢true e)
-attach_never Gone e = absurd (false≢true e)
-
-nobody's : (l : Link) → never l.sender_end ≡ true → (a : PortId) → owns a (Some l) ≡ false
-nobody's l e a = ap (λ b. b && same_port l.details.sender_port_id a) (never_attached l.sender_end e)
-
--- the settings of a link that is joined agree
-join_agrees : (ps : Places) (d : LinkDetails) (l : Link) → create_fault Sender ps d ≡ None → first (connects d) ps < length ps → at ps (first (connects d) ps) ≡ Some l
-    → agree l.details d ≡ true
-join_agrees ps d l e lt here = ⊎_elim (λ yes. yes)
-    (λ no. let c = creatable Sender ps d e in
-    let shown : create_fault Sender ps d ≡ Some creating.IncompatibleSettings
-    = cond-false _ _ _ c.buffer ∙ (cond-true _ _ _ (lt-ltb _ _ lt) ∙ (ap (λ x. by x None (join_fault Sender d)) here ∙ (cond-true _ _ _ (c.joined lt l here) ∙ cond-false _ _ _ no))) in
-    absurd (false≢true (ap is_some (sym e ∙ shown))))
-    (cases_Bool (agree l.details d))
-
 newly : (id : PortId) (ps : Places) (d : LinkDetails) (q : ℕ) → d.sender_port_id ≡ id → SafeBank ps → create_fault Sender ps d ≡ None → MayTake ps d q
     → Fresh id d (at ps q) (stepped Sender Attach (by (at ps q) (fresh d) (λ k. k)))
-newly id ps d q sender safe e may = ⊎_elim
-    (λ lt. let f = found_link d (at ps (first (connects d) ps)) (first_found (connects d) ps lt) in
-    let k = f.0 in
-    let here : at ps q ≡ Some k = ap (at ps) (may.joins lt) ∙ f.1 in
-    let n : never k.sender_end ≡ true = (creatable Sender ps d e).joined lt k f.1 in
-    let ports : between k.details d ≡ true = ap (connects d) (sym f.1) ∙ first_found (connects d) ps lt in
-    let u = safe.unsent q k here n in
-    let a = and_parts (eqb k.details.buffer_size d.buffer_size) _ (join_agrees ps d k e lt f.1) in
-    subst (λ x. Fresh id d x (stepped Sender Attach (by x (fresh d) (λ z. z)))) (sym here) (record {
-      was = nobody's k n;
-      now = and_from _ _ (attach_never k.sender_end n) (ap (same_port k.details.sender_port_id) (sym sender) ∙ (and_parts _ _ ports).0);
-      empty = λ o. ap (λ w. times (w ++ (k.borrowed ++ k.returned)) o) u.0 ∙ (ap (λ b. times (b ++ k.returned) o) u.1 ∙ ap (λ r. times r o) u.2);
-      buffer = eqb-true _ _ a.0;
-      borrow = eqb-true _ _ (and_parts (eqb k.details.max_borrowed_samples d.max_borrowed_samples) _ a.1).0;
-    }))
-    (λ le. subst (λ x. Fresh id d x (stepped Sender Attach (by x (fresh d) (λ z. z)))) (sym (may.takes le)) (record {
-      was = λ a. refl;
-      now = ap (same_port d.sender_port_id) (sym sender) ∙ same_port_refl d.sender_port_id;
-      empty = λ o. refl;
-      buffer = refl;
-      borrow = refl;
-    }))
-    (cases_lt (first (connects d) ps) (length ps))
+newly id ps d q sender safe e may = grind (arith, nat_tests, first_found, creatable)
 
 -- A SLOT FILLED
 
@@ -90,23 +47,13 @@ joined_at g i c l = record { port = with_slots g.port (set g.port.slots i (Some 
 
 slot_now : (xs : List (Option Connection)) (i : ℕ) (c : Connection) (j : ℕ) (d : Connection) → i < length xs → get_or (set xs i (Some c)) j None ≡ Some d
     → ((j ≡ i) × (d ≡ c)) ⊎ ((j ≡ i → ⊥) × (get_or xs j None ≡ Some d))
-slot_now xs i c j d lt e = ⊎_elim
-    (λ same. let f : ◌≡◌ {A = Option Connection} (Some c) (Some d) = sym (get_or-set_same xs i (Some c) None lt) ∙ (ap (λ k. get_or (set xs i (Some c)) k None) (sym same) ∙ e) in
-    let g : d ≡ c = cc in inl (same, g))
-    (λ other. inr (other, sym (get_or-set_other xs i j (Some c) None other) ∙ e))
-    (cases_eq j i)
+slot_now xs i c j d lt e = search rules
 
 wire_joined : (g : Side) (i : ℕ) (c : Connection) (l : Link) → i < length g.port.slots → c.place < length g.links → slot_at g.port i ≡ None
     → ((a : PortId) → owns a (at g.links c.place) ≡ false) → mine g.port.id l ≡ true → Wired g.port g.links → Wired (joined_at g i c l).port (joined_at g i c l).links
 wire_joined g i c l lt within vacant was now w = record {
-  own = λ j d e. ⊎_elim
-      (λ same. ap (λ (x : Connection). owns id (at qs x.place)) same.1 ∙ (ap (owns id) (get_or-set_same ps q (Some l) None within) ∙ now))
-      (λ old. ap (owns id) (get_or-set_other ps q d.place (Some l) None (elsewhere j d old.1)) ∙ w.own j d old.1)
-      (slot_now xs i c j d lt e);
-  apart = λ j k d f a b e. ⊎_elim
-      (λ x. ⊎_elim (λ y. x.0 ∙ sym y.0) (λ y. absurd (elsewhere k f y.1 (sym e ∙ ap (λ (z : Connection). z.place) x.1))) (slot_now xs i c k f lt b))
-      (λ x. ⊎_elim (λ y. absurd (elsewhere j d x.1 (e ∙ ap (λ (z : Connection). z.place) y.1))) (λ y. w.apart j k d f x.1 y.1 e) (slot_now xs i c k f lt b))
-      (slot_now xs i c j d lt a);
+  own = λ j d e. grind (arith, slot_now xs i c j d lt e, get_or-set_same ps q (Some l) None within, get_or-set_other ps q d.place (Some l) None, elsewhere j d, w.own j d, now);
+  apart = λ j k d f a b e. grind (arith, slot_now xs i c j d lt a, slot_now xs i c k f lt b, elsewhere k f, elsewhere j d, w.apart j k d f);
   cover = λ j e. ⊎_elim
       (λ same. (i, (c, get_or-set_same xs i (Some c) None lt, sym same)))
       (λ other. let f = w.cover j (ap (owns id) (sym (get_or-set_other ps q j (Some l) None other)) ∙ e) in
@@ -175,14 +122,7 @@ join_passes g i c d l within f safe small limit = record {
     q = c.place
 
     fits : Fits g.port ps → Fits (joined_at g i c l).port (set ps q (Some l))
-    fits h j e is = ⊎_elim
-        (λ same. let own : own_details g.port.id (at (set ps q (Some l)) j) ≡ Some l.details
-        = ap (λ k. own_details g.port.id (at (set ps q (Some l)) k)) same ∙ (ap (own_details g.port.id) (get_or-set_same ps q (Some l) None within) ∙ cond-true _ _ _ f.now) in
-        let it : e ≡ l.details = cc in
-        let b : e.buffer_size ≡ d.buffer_size = ap (λ (x : LinkDetails). x.buffer_size) it ∙ f.buffer in
-        (omega (arith, b, small), ap (λ (x : LinkDetails). x.max_borrowed_samples) it ∙ (f.borrow ∙ limit)))
-        (λ other. h j e (ap (own_details g.port.id) (sym (get_or-set_other ps q j (Some l) None other)) ∙ is))
-        (cases_eq j q)
+    fits h j e is = grind (arith, get_or-set_same ps q (Some l) None within, get_or-set_other ps q j (Some l) None, f.now, f.buffer, f.borrow, h j e, small, limit)
 
 -- THE HISTORY HANDED ON
 
@@ -207,17 +147,11 @@ hand_all : (loans hand : List PointerOffset) (os : List PointerOffset) (g : Side
     → Posted loans hand g (fold (handed c.place) g os)
 hand_all loans hand [] g s c there safe kept single k = record { order = k; passage = passage_refl g; slots = refl }
 hand_all loans hand (o ∷ os) g s c there safe kept single k =
-    let self : ◌≡◌ {A = ℕ} (one o o.value) 1 = cond-true _ _ _ (eq-eqb o.value o.value refl) in
-    let a = hand_over loans hand g s c o there safe (kept o (omega (arith, times_cons o os o.value, self))) (single o.value) k in
+    let a = hand_over loans hand g s c o there safe (kept o (omega (arith, times_cons o os o.value, one_self o))) (single o.value) k in
     let h = handed c.place g o in
     let b = hand_all loans hand os h s c (ap (λ xs. get_or xs s None) a.slots ∙ there) (a.passage.course.bank safe)
     (λ x some. let z = kept x (omega (arith, times_cons o os x.value, some)) in omega (arith, ap (λ l. times l x.value) a.passage.history, z)) single a.order in
     record { order = b.order; passage = passage_trans a.passage b.passage; slots = b.slots ∙ a.slots }
-
-dropped_times : (n : ℕ) (xs : List PointerOffset) (o : ℕ) → times (drop n xs) o ≤ times xs o
-dropped_times zero xs o = omega arith
-dropped_times (suc n) [] o = omega arith
-dropped_times (suc n) (x ∷ xs) o = omega (arith, dropped_times n xs o, times_cons x xs o)
 
 -- CONNECTING
 
@@ -227,10 +161,7 @@ pub record Joined (loans hand : List PointerOffset) (g h : Side) : Type 0 where
 
 small_buffer : (g : Side) (e : SubscriberDetails) → connect_fault g e ≡ None
     → (e.buffer_size ≤ g.port.settings.subscriber_max_buffer_size) × (create_fault Sender g.links (wanted g.port e) ≡ None)
-small_buffer g e none = ⊎_elim
-    (λ bad. absurd (false≢true (ap is_some (sym none ∙ cond-true _ (Some creating.IncompatibleBufferSize) (create_fault Sender g.links (wanted g.port e)) bad))))
-    (λ good. (ltb-false _ _ good, sym (cond-false _ (Some creating.IncompatibleBufferSize) _ good) ∙ none))
-    (cases_Bool (ltb g.port.settings.subscriber_max_buffer_size e.buffer_size))
+small_buffer g e none = search rules
 
 connect : (loans hand : List PointerOffset) (g : Side) (e : SubscriberDetails) (q : ℕ) → connect_fault g e ≡ None → MayTake g.links (wanted g.port e) q
     → e.place < length g.port.slots → slot_at g.port e.place ≡ None → SafeBank g.links → ((o : ℕ) → times hand o ≤ 1) → InOrder loans hand g
@@ -244,7 +175,7 @@ connect loans hand g e q none may lt vacant safe single k =
     let m = joined_at g e.place c l in
     let p = join_passes g e.place c d l may.within f (safe_created Sender g.links d q b.1 may) b.0 refl in
     let r = hand_all loans hand (last_of e.buffer_size g.port.history) m e.place c (get_or-set_same g.port.slots e.place (Some c) None lt) (p.course.bank safe)
-    (λ o some. omega (arith, dropped_times (length g.port.history - e.buffer_size) g.port.history o.value, some)) single
+    (λ o some. omega (arith, sum_by-take-drop (λ (x : PointerOffset). cond (eqb x.value o.value) 1 0) g.port.history (length g.port.history - e.buffer_size), some)) single
     (join_order loans hand g e.place c d l lt may.within vacant f k) in
     record { order = r.order; passage = passage_trans p r.passage }
 

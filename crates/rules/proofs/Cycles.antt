@@ -1,14 +1,15 @@
 -- What a cycle does to the slots keeps a publisher in order.
-use Rattle.std.proofs.Common.{◌≡◌, ℕ, zero, suc, ◌+◌, ◌-◌, ◌^◌, ltb, List, [], ◌∷◌, map, length, get_or, set, is_some, Some, None, Option, sym, refl, ap, ◌∙◌, subst, ⊎_elim, arith}
+use Rattle.std.proofs.Common.{rules, ◌≡◌, ℕ, ◌+◌, ◌-◌, ◌^◌, ltb, List, length, get_or, set, Some, None, Option, sym, refl, ap, ◌∙◌, subst}
 use Rattle.std.specs.Option.{option_map}
-use Rattle.std.proofs.lemmas.List.{get_or-set_same, get_or-set_other, set_past, length-set, length-map}
-use Rattle.std.proofs.lemmas.Bool.{cases_Bool, cases_eq, cases_lt, cond-true, cond-false, false≢true}
+use Rattle.std.proofs.lemmas.Bool.{cond_both}
+use Rattle.std.proofs.lemmas.List.{length-set, length-map}
+use Rattle.std.proofs.Math.ListN.{get_or-map}
 use Rattle.elementary.specs.declared.pointer_offset.PointerOffset.{PointerOffset}
-use Rattle.rules.specs.Pools.{by}
-use Rattle.rules.specs.Bank.{Places, at}
+use Rattle.rules.specs.Bank.{Places}
 use Rattle.rules.specs.Publisher.{Connection, Pub, Side, slot_at, tagged, tag_slot, begun, is_stale, Sweeps, swept, visited}
-use Rattle.rules.specs.Books.{owns, Wired, InOrder, beside}
-use Rattle.rules.proofs.Lends.{goes}
+use Rattle.rules.specs.Books.{Wired, InOrder, beside}
+use Rattle.rules.proofs.Banks.{goes}
+use Rattle.rules.proofs.Lists.{set_each}
 use Rattle.rules.proofs.Removes.{removing}
 
 -- TAGS
@@ -17,28 +18,14 @@ abbrev places : Option Connection → Option ℕ
 places x = option_map (λ (c : Connection). c.place) x
 
 found : (x : Option Connection) (n : ℕ) → places x ≡ Some n → (d : Connection) × (x ≡ Some d) × (d.place ≡ n)
-found None n e = absurd (false≢true (ap is_some e))
-found (Some d) n e = (d, refl, ap (λ y. by y 0 (λ k. k)) e)
+found x n h = search rules
 
 -- slots that differ by tags alone are wired alike
 retagged : (p q : Pub) (ps : Places) → q.id ≡ p.id → length q.slots ≡ length p.slots → ((j : ℕ) → places (slot_at q j) ≡ places (slot_at p j)) → Wired p ps → Wired q ps
-retagged p q ps id long same w =
-    let back : (j : ℕ) (c : Connection) → slot_at q j ≡ Some c → (d : Connection) × (slot_at p j ≡ Some d) × (d.place ≡ c.place)
-    = λ j c e. found (slot_at p j) c.place (sym (same j) ∙ ap places e) in
-    record {
-      own = λ j c e. let b = back j c e in ap (λ x. owns x (at ps c.place)) id ∙ (ap (λ k. owns p.id (at ps k)) (sym b.2) ∙ w.own j b.0 b.1);
-      apart = λ i j c d a b. let x = back i c a in
-          let y = back j d b in
-          λ e. w.apart i j x.0 y.0 x.1 y.1 (x.2 ∙ (e ∙ sym y.2));
-      cover = λ j e. let f = w.cover j (sym (ap (λ x. owns x (at ps j)) id) ∙ e) in
-          let b = found (slot_at q f.0) f.1.0.place (same f.0 ∙ ap places f.1.1) in
-          (f.0, (b.0, b.1, b.2 ∙ f.1.2));
-      few = omega (arith, long, w.few);
-    }
+retagged p q ps id long same w = search rules
 
 tag_places : (n : ℕ) (x : Option Connection) → places (option_map (tagged n) x) ≡ places x
-tag_places n None = refl
-tag_places n (Some c) = refl
+tag_places n x = search rules
 
 -- the books do not look at slots, tags and lists
 pub tagging : (loans hand : List PointerOffset) (g : Side) (i : ℕ) → InOrder loans hand g → InOrder loans hand (beside g (tag_slot g.port i))
@@ -47,38 +34,21 @@ tagging loans hand g i k =
     let b = k.books in
     let y = option_map (tagged p.cycle) (slot_at p i) in
     let same : (j : ℕ) → places (get_or (set p.slots i y) j None) ≡ places (slot_at p j)
-    = λ j. ⊎_elim
-    (λ here. ⊎_elim
-    (λ lt. ap (λ l. places (get_or (set p.slots i y) l None)) here ∙ (ap places (get_or-set_same p.slots i y None lt) ∙ (tag_places p.cycle (slot_at p i) ∙ ap (λ l. places (slot_at p l)) (sym here))))
-    (λ le. ap (λ xs. places (get_or xs j None)) (set_past p.slots i y le))
-    (cases_lt i (length p.slots)))
-    (λ other. ap places (get_or-set_other p.slots i j y None other))
-    (cases_eq j i) in
+    = set_each (λ c d. places d ≡ places c) (λ c. refl) p.slots i y None (tag_places p.cycle (slot_at p i)) in
     record {
-      books = record { ledger = b.ledger; balance = b.balance; free = b.free; alone = b.alone; once = b.once };
+      books = search rules;
       wired = retagged p (tag_slot p i) g.links refl (length-set p.slots i y) same k.wired;
     }
 
 pub beginning : (loans hand : List PointerOffset) (g : Side) (n : ℕ) → InOrder loans hand g → InOrder loans hand (beside g (begun g.port n))
 beginning loans hand g n k =
     let p = g.port in
-    let b = k.books in
-    let to : Pub → Type 0 = λ q. InOrder loans hand (beside g q) in
-    ⊎_elim
-    (λ yes. subst to (sym (cond-true (ltb p.cycle (2 ^ 64 - 1)) _ _ yes)) (record {
-      books = record { ledger = b.ledger; balance = b.balance; free = b.free; alone = b.alone; once = b.once };
-      wired = record { own = k.wired.own; apart = k.wired.apart; cover = k.wired.cover; few = k.wired.few };
-    }))
-    (λ no. subst to (sym (cond-false (ltb p.cycle (2 ^ 64 - 1)) _ _ no)) (record {
-      books = record { ledger = b.ledger; balance = b.balance; free = b.free; alone = b.alone; once = b.once };
-      wired = retagged p _ g.links refl (length-map p.slots (option_map (tagged 0))) (mapped_places p.slots) k.wired;
-    }))
-    (cases_Bool (ltb p.cycle (2 ^ 64 - 1)))
-  where
-    mapped_places : (xs : List (Option Connection)) (j : ℕ) → places (get_or (map (option_map (tagged 0)) xs) j None) ≡ places (get_or xs j None)
-    mapped_places [] j = refl
-    mapped_places (x ∷ xs) zero = tag_places 0 x
-    mapped_places (x ∷ xs) (suc j) = mapped_places xs j
+    cond_both (ltb p.cycle (2 ^ 64 - 1)) _ _ (λ q. InOrder loans hand (beside g q))
+    (λ _. record { books = search rules; wired = search rules })
+    (λ _. record {
+      books = search rules;
+      wired = retagged p _ g.links refl (length-map p.slots (option_map (tagged 0))) (λ j. ap places (get_or-map (option_map (tagged 0)) p.slots j None) ∙ tag_places 0 (slot_at p j)) k.wired;
+    })
 
 -- SWEEPING
 

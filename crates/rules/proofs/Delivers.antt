@@ -1,27 +1,20 @@
 -- A send keeps a publisher in order.
-use Rattle.std.proofs.Common.{◌≡◌, ℕ, suc, ◌+◌, ◌<◌, ◌≤◌, Bool, true, false, cond, eqb, ltb, List, [], ◌∷◌, ◌++◌, get_or, Some, None, Ok, Err, Option, Result, sym, refl, ap, ◌∙◌, subst, ⊎_elim, arith}
+use Rattle.std.proofs.Common.{rules, arith, true, false, Bool, cond, ◌≡◌, ℕ, suc, ◌+◌, ◌<◌, ◌≤◌, eqb, List, [], ◌∷◌, ◌++◌, get_or, Some, None, Ok, Err, Option, Result, sym, refl, ap, ◌∙◌, subst}
 use Rattle.std.specs.Option.{option_to_list}
-use Rattle.std.proofs.lemmas.Bool.{cases_eq, cond-true, cond-false, eq-eqb, ne_eqb, false≢true}
+use Rattle.std.proofs.lemmas.Bool.Decides.{nat_tests}
+use Rattle.std.proofs.lemmas.Bool.{cond-true, cond-false, false≢true}
 use Rattle.container.specs.Queue.{without, overflowed, evicted}
 use Rattle.elementary.specs.Ids.{same_chunk}
 use Rattle.elementary.specs.declared.pointer_offset.PointerOffset.{PointerOffset}
 use Rattle.elementary.specs.declared.port_list.SubscriberDetails.{SubscriberDetails}
-use Rattle.elementary.specs.declared.settings.PublisherSettings.{PublisherSettings}
-use Rattle.elementary.specs.declared.backpressure.BackpressureAction.{BackpressureAction}
-use Rattle.elementary.specs.declared.backpressure.BackpressureAction.TheVariants as action
-use Rattle.elementary.specs.declared.backpressure.BackpressureStrategy.{BackpressureStrategy}
-use Rattle.elementary.specs.declared.backpressure.BackpressureStrategy.TheVariants as strategy
-use Rattle.elementary.specs.declared.backpressure.DegradationAction.{DegradationAction}
-use Rattle.elementary.specs.declared.backpressure.DegradationAction.TheVariants.{Ignore, Warn, DegradeAndFail}
 use Rattle.elementary.specs.declared.error.ZeroCopySendError.{ZeroCopySendError}
-use Rattle.elementary.specs.declared.error.ZeroCopySendError.TheVariants as sending
 use Rattle.elementary.specs.declared.error.SendError.{SendError}
 use Rattle.elementary.specs.declared.error.SendError.TheVariants as send
 use Rattle.rules.specs.Links.{times}
 use Rattle.rules.specs.Bank.{Goes, Places, sends, Turned, SafeBank}
-use Rattle.rules.specs.Publisher.{Connection, Pub, Side, slot_at, with_history, with_loans, hold, let_go, let_go_if, reclaimed_all, is_live, noted, Updates, Going, Verdict, accepts, passes, fails, tries_again, Handler, followed, acted, within_budget, degraded, has_receiver, judged, ended, with_links, Tries, tried, turned, Rounds, done, skipped, stopped, next, Delivers, spent, Posts, Sends}
+use Rattle.rules.specs.Publisher.{Connection, Pub, Side, slot_at, with_history, with_loans, hold, let_go, let_go_if, reclaimed_all, is_live, noted, Updates, Going, Verdict, Handler, judged, ended, with_links, Tries, tried, turned, Rounds, done, skipped, stopped, next, Delivers, spent, Posts, Sends}
 use Rattle.rules.specs.Books.{count_of, Books, InOrder}
-use Rattle.rules.proofs.Offsets.{one, times_cons, times_append, without_times, overflowed_times}
+use Rattle.rules.proofs.Offsets.{one_self, times_cons, times_append, without_times, overflowed_times}
 use Rattle.rules.proofs.Keep.{holding, letting_go}
 use Rattle.rules.proofs.Holdings.{stir_turned}
 use Rattle.rules.proofs.Views.{unmoved_held, unmoved_order}
@@ -39,47 +32,8 @@ use Rattle.rules.proofs.Updates.{updating}
 abbrev Idle : Verdict → Type 0
 Idle v = (a : Going) (c : Connection) (o : PointerOffset) → (ended a c o v).side ≡ a.side
 
-idle_passes : Idle passes
-idle_passes a c o = refl
-
-idle_budget : (s : PublisherSettings) (n : ℕ) (v : Verdict) → Idle v → Idle (within_budget s n v)
-idle_budget s n (accepts e) i = i
-idle_budget s n passes i = i
-idle_budget s n (fails e) i = i
-idle_budget s n tries_again i = go (ltb n s.max_retries)
-  where
-    go : (b : Bool) → Idle (cond b tries_again (fails send.UnableToDeliver))
-    go true a c o = refl
-    go false a c o = refl
-
-idle_followed : (s : BackpressureStrategy) → Idle (followed s)
-idle_followed strategy.RetryUntilDelivered a c o = refl
-idle_followed strategy.DiscardData a c o = refl
-
-idle_acted : (s : PublisherSettings) (x : BackpressureAction) → Idle (acted s x)
-idle_acted s action.FollowBackpressureStrategy a c o = idle_followed s.backpressure_strategy a c o
-idle_acted s action.Retry a c o = refl
-idle_acted s action.DiscardData a c o = refl
-idle_acted s action.DiscardDataAndFail a c o = refl
-
-idle_degraded : (d : DegradationAction) → Idle (degraded d)
-idle_degraded Ignore a c o = refl
-idle_degraded Warn a c o = refl
-idle_degraded DegradeAndFail a c o = refl
-
-idle_cond : (b : Bool) (v w : Verdict) → Idle v → Idle w → Idle (cond b v w)
-idle_cond true v w i j = i
-idle_cond false v w i j = j
-
 idle_refused : (f : Handler) (g : Side) (d : Connection) (n : ℕ) (e : ZeroCopySendError) → Idle (judged f g d n (Err e))
-idle_refused f g d n sending.NotConnected = idle_passes
-idle_refused f g d n sending.InternalError = λ a c o. refl
-idle_refused f g d n sending.ConnectionCorrupted = idle_degraded g.port.settings.degradation_action
-idle_refused f g d n sending.UsedChunkListFull = idle_passes
-idle_refused f g d n sending.ReceiveBufferFull =
-    let s = g.port.settings in
-    let x = f (record { sender_port_id = g.port.id; receiver_port_id = d.peer; retries = n }) in
-    idle_cond (has_receiver g.links d.place) (within_budget s n (acted s x)) passes (idle_budget s n (acted s x) (idle_acted s x)) idle_passes
+idle_refused f g d n e = search rules
 
 -- what a delivery needs of the chunk that it delivers
 record Held (hand : List PointerOffset) (o : PointerOffset) (g : Side) : Type 0 where
@@ -164,17 +118,11 @@ entered loans hand p ps n o absent k = record {
   balance = λ x. omega (arith, k.balance x, times_cons o hand x, times_append (option_to_list (evicted n p.history o)) hand x, overflowed_evicted n p.history o x);
   free = k.free;
   alone = k.alone;
-  once = λ x. ⊎_elim
-      (λ same. let z : ◌≡◌ {A = ℕ} (one o x) 1 = cond-true _ _ _ (eq-eqb o.value x same) in
-      omega (arith, overflowed_times n p.history o x, z, absent, ap (times p.history) same))
-      (λ other. let z : ◌≡◌ {A = ℕ} (one o x) 0 = cond-false _ _ _ (ne_eqb o.value x other) in
-      omega (arith, overflowed_times n p.history o x, z, k.once x))
-      (cases_eq o.value x);
+  once = λ x. grind (arith, nat_tests, overflowed_times n p.history o x, absent, k.once x);
 }
 
 if_history : (p : Pub) (e : Option PointerOffset) → (let_go_if p e).history ≡ p.history
-if_history p None = refl
-if_history p (Some o) = refl
+if_history p e = search rules
 
 noting : (loans hand : List PointerOffset) (g : Side) (o : PointerOffset) → 0 < count_of g.port o.value → count_of g.port o.value < 10 → times loans o.value ≡ 0
     → times g.port.history o.value ≡ 0 → InOrder loans hand g → Noted loans hand g o (record { port = noted g.port o; links = g.links })
@@ -232,14 +180,13 @@ taken_in_hand : (g : Side) (o : PointerOffset) → is_live g.port o ≡ true →
 taken_in_hand g o live k =
     let p = g.port in
     let v = o.value in
-    let self : ◌≡◌ {A = ℕ} (one o v) 1 = cond-true _ _ _ (eq-eqb v v refl) in
     let less = without_times p.loans o v live in
     let b = in_hand [] p g.links o live k.books in
-    let alone = k.books.alone v (omega (arith, less, self)) in
+    let alone = k.books.alone v (omega (arith, less, one_self o)) in
     record {
-      order = record { books = record { ledger = b.ledger; balance = b.balance; free = b.free; alone = b.alone; once = b.once }; wired = k.wired };
-      lent = omega (arith, less, self, alone, k.books.balance v);
-      absent = omega (arith, less, self, alone, k.books.balance v);
+      order = record { books = search rules; wired = k.wired };
+      lent = omega (arith, less, one_self o, alone, k.books.balance v);
+      absent = omega (arith, less, one_self o, alone, k.books.balance v);
     }
 
 -- the loan ends
@@ -269,7 +216,7 @@ posts f g m o (Some e) r k (_, is) p safe i w =
 posts f g m o None r k d p safe i w =
     let l = without same_chunk g.port.loans o in
     let v = o.value in
-    let self : ◌≡◌ {A = ℕ} (times (o ∷ []) v) 1 = times_cons o [] v ∙ ap (λ n. n + 0) (cond-true _ _ _ (eq-eqb v v refl)) in
+    let self : ◌≡◌ {A = ℕ} (times (o ∷ []) v) 1 = omega (arith, times_cons o [] v, one_self o) in
     let absent : times m.port.history v ≡ 0 = ap (λ h. times h v) p.history ∙ i.absent in
     let held = held_few m.port m.links v safe.sound w.wired in
     let count = w.books.balance v in
@@ -279,11 +226,7 @@ posts f g m o None r k d p safe i w =
     spending g k o (y.passage.loans ∙ (n.loans_same ∙ p.loans)) (y.passage.closed ∙ (n.closed ∙ p.closed)) (course_trans p.course (course_trans n.course y.passage.course)) y.order
 
 single_hand : (o : PointerOffset) (x : ℕ) → times (o ∷ []) x ≤ 1
-single_hand o x = go (eqb o.value x) refl
-  where
-    go : (b : Bool) → eqb o.value x ≡ b → times (o ∷ []) x ≤ 1
-    go true e = omega (arith, times_cons o [] x, ap (λ t. cond {A = ℕ} t 1 0) e)
-    go false e = omega (arith, times_cons o [] x, ap (λ t. cond {A = ℕ} t 1 0) e)
+single_hand o x = search rules
 
 pub sending_off : (f : Handler) (g : Side) (o : PointerOffset) (n : ℕ) (es : List SubscriberDetails) (r : Result ℕ SendError) (h : Side) → Sends f g o n es r h
     → is_live g.port o ≡ true → SafeBank g.links → InOrder g.port.loans [] g → SentOff g o h

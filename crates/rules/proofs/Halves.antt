@@ -1,5 +1,5 @@
 -- No call of a subscriber changes what the links hold for their senders.
-use Rattle.std.proofs.Common.{◌≡◌, ℕ, zero, suc, ◌+◌, Bool, true, false, cond, ◌||◌, List, [], ◌∷◌, length, get_or, drop, is_some, Some, None, Ok, Err, Option, Result, sym, refl, subst}
+use Rattle.std.proofs.Common.{arith, rules, ◌≡◌, ℕ, zero, suc, ◌+◌, Bool, true, false, cond, List, [], ◌∷◌, length, get_or, drop, is_some, Some, None, Ok, Err, Option, Result, sym, refl, subst}
 use Rattle.std.specs.List.{remove}
 use Rattle.elementary.specs.declared.port_id.PortId.{PortId}
 use Rattle.elementary.specs.declared.pointer_offset.PointerOffset.{PointerOffset}
@@ -8,14 +8,14 @@ use Rattle.elementary.specs.declared.chunk_details.ChunkDetails.{ChunkDetails}
 use Rattle.elementary.specs.declared.link.End.TheVariants.{Receiver}
 use Rattle.elementary.specs.declared.error.ReceiveError.{ReceiveError}
 use Rattle.elementary.specs.declared.error.UpdateError.{UpdateError}
-use Rattle.elementary.specs.declared.error.UpdateError.TheVariants as update
 use Rattle.elementary.specs.declared.error.ZeroCopyReceiveError.{ZeroCopyReceiveError}
 use Rattle.elementary.specs.declared.error.ZeroCopyCreationError.{ZeroCopyCreationError}
 use Rattle.rules.specs.Pools.{by}
-use Rattle.rules.specs.Bank.{Goes, Places, receives, received, given_back, MayTake, created, detached, receive_at, release_at, has_data}
-use Rattle.rules.specs.Publisher.{first_of, is_seen}
-use Rattle.rules.specs.Subscriber.{Stored, Half, with_links, with_expired, key_at, stored_at, has_borrows, dropped, victim, struck, has_room, room_made, listed, busy, key_prepared, prepared, prepare_fault, begun, tag_slot, has_peer, wanted, has_key, stored_new, made_at, MakesBy, Makes, link_fault, Enters, entry_fault, stops, malformed, is_stale, taken_out, visited, visit_fault, swept, finished, Cycles, Updates, Translation, left, asks, asked, Way, gives, drops, ends, Walk, passed, walk, Walked, onward, walks, expired_walk, Served, served, serve, receive_after, over, release_after, ends_detached}
+use Rattle.rules.specs.Bank.{Places, receives, received, given_back, MayTake, created, detached, receive_at, release_at, has_data}
+use Rattle.rules.specs.Publisher.{first_of}
+use Rattle.rules.specs.Subscriber.{Stored, Half, with_links, with_expired, key_at, stored_at, has_borrows, dropped, victim, struck, has_room, room_made, listed, busy, key_prepared, prepared, prepare_fault, tag_slot, has_peer, wanted, has_key, stored_new, made_at, MakesBy, link_fault, Enters, entry_fault, stops, is_stale, taken_out, visited, visit_fault, swept, finished, Cycles, Updates, Translation, left, asks, asked, Way, gives, drops, ends, Walk, passed, walk, Walked, onward, walks, expired_walk, Served, served, serve, receive_after, over, release_after, ends_detached}
 use Rattle.rules.specs.Holdings.{Stirred, NothingTakenAway, OnlyStirred}
+use Rattle.rules.proofs.Banks.{goes}
 use Rattle.rules.proofs.Holdings.{stir_refl, stir_trans, stir_moved, stir_detached, stir_created, stir_turned}
 
 module _ (ps : Places) where
@@ -87,13 +87,7 @@ stir_asked : (t : Translation) (ps : Places) (c : Stored) → Stirred ps (asked 
 stir_asked t ps c = stir_trans (stir_moved ps (receive_at c.place)) (stir_left t c (receives ps c.place) (received ps c.place))
 
 stir_passed : (n k : ℕ) (c : Stored) (qs : Places) (r : Result (Option ChunkDetails) ReceiveError) (rest : Walk) → Stirred qs rest.links → Stirred qs (passed qs n k c r rest).links
-stir_passed n k c qs (Err e) rest h = h
-stir_passed n k c qs (Ok (Some x)) rest h = stir_refl qs
-stir_passed n k c qs (Ok None) rest h = or (has_data qs c.place || has_borrows qs c.place)
-  where
-    or : (b : Bool) → Stirred qs (cond b rest (record { way = drops n k; links = qs })).links
-    or true = h
-    or false = stir_refl qs
+stir_passed n k c qs r rest h = search rules
 
 stir_walk : (t : Translation) (st : List (Option Stored)) (ks : List ℕ) (ps : Places) (n : ℕ) → Stirred ps (walk t st ps n ks).links
 stir_walk t st [] ps n = stir_refl ps
@@ -116,9 +110,7 @@ stir_walks t (suc m) s skip =
     (stir_onward (with_links s (walk t s.port.storage s.links 0 (drop skip s.port.expired)).links) (walk t s.port.storage s.links 0 (drop skip s.port.expired)).way (λ x n. walks t x n m) (λ x n. stir_walks t m x n))
 
 stir_served : (qs : Places) (r : Result (Option ChunkDetails) ReceiveError) (x y : Served) → Stirred qs x.links → Stirred qs y.links → Stirred qs (served qs r x y).links
-stir_served qs (Ok (Some a)) x y h g = stir_refl qs
-stir_served qs (Ok None) x y h g = g
-stir_served qs (Err e) x y h g = h
+stir_served qs r x y h k = search rules
 
 stir_serve : (t : Translation) (cs : List (Option Stored)) (ps : Places) (so fr : Bool) (k : ℕ) → Stirred ps (serve t ps so fr k cs).links
 stir_serve t [] ps so fr k = stir_refl ps
@@ -159,42 +151,20 @@ stir_tagged : (s : Half) (i : ℕ) → Stirred s.links (tag_slot s i).links
 stir_tagged s i = half_by s.links (key_at s i) s _ (stir_refl s.links) (λ k. stir_refl s.links)
 
 stir_enters : (s : Half) (e : PublisherDetails) (t : Half) → Enters s e t → Stirred s.links t.links
-stir_enters s e t w = go (has_peer s e) w
-  where
-    p : Half
-    p = prepared s e.place
-
-    make : (b : Bool) → Goes b (t ≡ p) (Makes p e t) → Stirred s.links t.links
-    make true v = half_like s.links p t v (stir_prepared s e.place)
-    make false v = stir_trans (stir_prepared s e.place) (stir_makes (link_fault p e) p e t refl v)
-
-    go : (b : Bool) → Goes b (t ≡ tag_slot s e.place) (Goes (is_some (prepare_fault s e.place)) (t ≡ p) (Makes p e t)) → Stirred s.links t.links
-    go true v = half_like s.links (tag_slot s e.place) t v (stir_tagged s e.place)
-    go false v = make (is_some (prepare_fault s e.place)) v
+stir_enters s e t w =
+    let p = prepared s e.place in
+    goes (has_peer s e) w (λ same. half_like s.links (tag_slot s e.place) t same (stir_tagged s e.place))
+    (λ v. goes (is_some (prepare_fault s e.place)) v (λ same. half_like s.links p t same (stir_prepared s e.place))
+    (λ made. stir_trans (stir_prepared s e.place) (stir_makes (link_fault p e) p e t refl made)))
 
 stir_cycles : (es : List PublisherDetails) (s : Half) (p r : Option UpdateError) (t : Half) → Cycles s es p r t → Stirred s.links t.links
 stir_cycles [] s p r t w = half_like s.links (finished s).half t w.1 (stir_finished s)
 stir_cycles (e ∷ es) s p r t w =
-    stir_trans (stir_enters s e w.0 w.1) (go (stops (entry_fault s e)) w.2 (λ v. stir_cycles es w.0 (first_of p (entry_fault s e)) r t v))
-  where
-    go : (b : Bool) → Goes b ((r ≡ entry_fault s e) × (t ≡ w.0)) (Cycles w.0 es (first_of p (entry_fault s e)) r t)
-        → (Cycles w.0 es (first_of p (entry_fault s e)) r t → Stirred w.0.links t.links) → Stirred w.0.links t.links
-    go true v h = half_like w.0.links w.0 t v.1 (stir_refl w.0.links)
-    go false v h = h v
-
-stir_begun : (s : Half) (n : ℕ) → Stirred s.links (begun s n).links
-stir_begun s n = half_cond s.links _ _ _ (stir_refl s.links) (stir_refl s.links)
+    stir_trans (stir_enters s e w.0 w.1)
+    (goes (stops (entry_fault s e)) w.2 (λ v. half_like w.0.links w.0 t v.1 (stir_refl w.0.links)) (λ v. stir_cycles es w.0 (first_of p (entry_fault s e)) r t v))
 
 stir_updates : (known : PortId → Bool) (s : Half) (n : ℕ) (es : List PublisherDetails) (r : Option UpdateError) (t : Half) → Updates known s n es r t → Stirred s.links t.links
-stir_updates known s n es r t w = go (is_seen s.port.seen n) w
-  where
-    or : (b : Bool) → Goes b ((r ≡ Some update.MalformedList) × (t ≡ s)) (Cycles (begun s n) es None r t) → Stirred s.links t.links
-    or true v = half_like s.links s t v.1 (stir_refl s.links)
-    or false v = stir_trans (stir_begun s n) (stir_cycles es (begun s n) None r t v)
-
-    go : (b : Bool) → Goes b ((r ≡ None) × (t ≡ s)) (Goes (malformed known (length s.port.slots) es) ((r ≡ Some update.MalformedList) × (t ≡ s)) (Cycles (begun s n) es None r t)) → Stirred s.links t.links
-    go true v = half_like s.links s t v.1 (stir_refl s.links)
-    go false v = or (malformed known (length s.port.slots) es) v
+stir_updates known s n es r t w = grind (arith, stir_cycles)
 
 pub nothing_taken_away : NothingTakenAway
 nothing_taken_away = record {

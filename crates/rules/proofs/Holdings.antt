@@ -1,18 +1,17 @@
 -- The calls of a receiver end leave what a link holds for its sender.
-use Rattle.std.proofs.Common.{◌≡◌, ℕ, zero, suc, ◌+◌, Bool, true, false, cond, ◌&&◌, ◌||◌, List, [], ◌∷◌, ◌++◌, set, is_some, Some, None, fold, Option, sym, refl, ap, ◌∙◌, subst, arith}
+use Rattle.std.proofs.Common.{rules, arith, true, false, Bool, cond, ◌≡◌, ℕ, ◌+◌, ◌&&◌, List, [], ◌∷◌, ◌++◌, set, is_some, Some, None, Option, sym, refl, ap, ◌∙◌}
 use Rattle.std.specs.Option.{option_map, option_to_list}
 use Rattle.container.specs.Queue.{oldest, later, without}
 use Rattle.elementary.specs.Ids.{same_chunk}
 use Rattle.elementary.specs.declared.pointer_offset.PointerOffset.{PointerOffset}
 use Rattle.elementary.specs.declared.link.LinkDetails.{LinkDetails}
 use Rattle.elementary.specs.declared.link.End.TheVariants.{Receiver}
-use Rattle.elementary.specs.declared.link.Event.TheVariants.{Attach, Detach}
-use Rattle.rules.specs.Pools.{by}
-use Rattle.rules.specs.Links.{Link, attached, next_standing, stepped, fresh, listed, times, with_lists, can_borrow, receive_after, release_fault, release_after}
-use Rattle.rules.specs.Bank.{Places, at, changed, received, given_back, create_fault, MayTake, created, kept, detached, Move, receive_at, release_at, moved, Turned}
+use Rattle.rules.specs.Links.{Link, attached, times, with_lists, can_borrow, receive_after, release_fault, release_after}
+use Rattle.rules.specs.Bank.{Places, at, changed, received, given_back, create_fault, MayTake, created, detached, Move, receive_at, release_at, moved, Turned}
 use Rattle.rules.specs.Holdings.{Keeps, HeldSame, Stirred}
+use Rattle.rules.proofs.Banks.{turned_by, listed_times, releasable}
+use Rattle.rules.proofs.Lists.{set_each}
 use Rattle.rules.proofs.Offsets.{times_append, times_push, times_split, without_times}
-use Rattle.rules.proofs.Banks.{listed_times, releasable}
 use Rattle.rules.proofs.Safe.{safe_moved, safe_detached, safe_created}
 
 pub keeps_refl : (x : Option Link) → Keeps x x
@@ -25,15 +24,8 @@ held_trans : {ps qs rs : Places} → HeldSame ps qs → HeldSame qs rs → HeldS
 held_trans a b = record { keeps = λ i. record { owner = (b.keeps i).owner ∙ (a.keeps i).owner; holds = λ o. (b.keeps i).holds o ∙ (a.keeps i).holds o } }
 
 -- one place set
-set_keeps : (ps : Places) (i : ℕ) (x : Option Link) → Keeps (at ps i) x → (j : ℕ) → Keeps (at ps j) (at (set ps i x) j)
-set_keeps [] i x k j = keeps_refl None
-set_keeps (p ∷ ps) zero x k zero = k
-set_keeps (p ∷ ps) zero x k (suc j) = keeps_refl (at ps j)
-set_keeps (p ∷ ps) (suc i) x k zero = keeps_refl p
-set_keeps (p ∷ ps) (suc i) x k (suc j) = set_keeps ps i x k j
-
 held_set : (ps : Places) (i : ℕ) (x : Option Link) → Keeps (at ps i) x → HeldSame ps (set ps i x)
-held_set ps i x k = record { keeps = set_keeps ps i x k }
+held_set ps i x k = record { keeps = set_each Keeps keeps_refl ps i x None k }
 
 held_changed : (ps : Places) (i : ℕ) (f : Link → Link) → ((l : Link) → Keeps (Some l) (Some (f l))) → HeldSame ps (changed ps i f)
 held_changed ps i f k = held_set ps i (option_map f (at ps i)) (go (at ps i))
@@ -65,14 +57,6 @@ release_keeps x l = go (is_some (release_fault l x)) refl
     go true e = same_lists l _ _ _ (λ o. refl)
     go false e = same_lists l _ _ _ (λ o. omega (arith, without_times l.borrowed x o (releasable l x e).0, times_push l.returned x o))
 
-kept_keeps : (l : Link) → Keeps (Some l) (kept (stepped Receiver Detach l))
-kept_keeps l = go (attached l.sender_end) (attached (next_standing l.receiver_end Detach)) refl
-  where
-    go : (a b : Bool) → attached l.sender_end ≡ a → Keeps (Some l) (cond (a || b) (Some (stepped Receiver Detach l)) None)
-    go true b e = record { owner = refl; holds = λ o. refl }
-    go false true e = record { owner = refl; holds = λ o. refl }
-    go false false e = record { owner = sym (ap (λ x. cond x (Some l.details) None) e); holds = λ o. sym (ap (λ x. cond x (times (listed l) o) 0) e) }
-
 -- the bank's calls at a receiver end
 held_received : (ps : Places) (i : ℕ) → HeldSame ps (received ps i)
 held_received ps i = held_changed ps i receive_after receive_keeps
@@ -81,18 +65,10 @@ held_given_back : (ps : Places) (i : ℕ) (o : PointerOffset) → HeldSame ps (g
 held_given_back ps i o = held_changed ps i (λ l. release_after l o) (release_keeps o)
 
 held_detached : (ps : Places) (i : ℕ) → HeldSame ps (detached Receiver ps i)
-held_detached ps i = held_set ps i _ (go (at ps i))
-  where
-    go : (x : Option Link) → Keeps x (by x None (λ l. kept (stepped Receiver Detach l)))
-    go None = keeps_refl None
-    go (Some l) = kept_keeps l
+held_detached ps i = grind (arith, held_set)
 
 held_created : (ps : Places) (d : LinkDetails) (q : ℕ) → HeldSame ps (created Receiver ps d q)
-held_created ps d q = held_set ps q _ (go (at ps q))
-  where
-    go : (x : Option Link) → Keeps x (Some (stepped Receiver Attach (by x (fresh d) (λ l. l))))
-    go None = record { owner = refl; holds = λ o. refl }
-    go (Some l) = record { owner = refl; holds = λ o. refl }
+held_created ps d q = search (rules, held_set)
 
 -- WITH THE BANK KEPT SAFE
 
@@ -106,12 +82,8 @@ pub stir_moved : (ps : Places) (m : Move) → Stirred ps (moved ps m)
 stir_moved ps (receive_at i) = record { same = held_received ps i; safe = safe_moved ps (receive_at i) }
 stir_moved ps (release_at i o) = record { same = held_given_back ps i o; safe = safe_moved ps (release_at i o) }
 
-stir_moves : (ms : List Move) (ps : Places) → Stirred ps (fold moved ps ms)
-stir_moves [] ps = stir_refl ps
-stir_moves (m ∷ ms) ps = stir_trans (stir_moved ps m) (stir_moves ms (moved ps m))
-
 pub stir_turned : (ps qs : Places) → Turned ps qs → Stirred ps qs
-stir_turned ps qs t = subst (Stirred ps) (sym t.1) (stir_moves t.0 ps)
+stir_turned ps qs t = turned_by (Stirred ps) (λ rs m s. stir_trans s (stir_moved rs m)) ps qs t (stir_refl ps)
 
 pub stir_detached : (ps : Places) (i : ℕ) → Stirred ps (detached Receiver ps i)
 stir_detached ps i = record { same = held_detached ps i; safe = safe_detached Receiver ps i }

@@ -1,19 +1,20 @@
 -- The moves of which every call is made keep a publisher's books.
-use Rattle.std.proofs.Common.{◌≡◌, ℕ, ◌+◌, ◌-◌, ◌<◌, ◌≤◌, Bool, true, false, cond, eqb, ltb, List, ◌∷◌, length, get_or, set, sym, refl, ap, ◌∙◌, subst, ⊎_elim, arith}
+use Rattle.std.proofs.Common.{rules, arith, true, false, Bool, cond, ◌≡◌, ℕ, ◌+◌, ◌-◌, ◌<◌, eqb, ltb, List, ◌∷◌, length, get_or, sym, ap, ◌∙◌, subst, ⊎_elim}
+use Rattle.std.proofs.lemmas.Bool.Decides.{nat_tests}
 use Rattle.std.proofs.lemmas.List.{get_or-set_other, length-set}
-use Rattle.std.proofs.lemmas.Bool.{cases_Bool, cases_eq, cases_lt, cond-true, cond-false, lt-ltb, le-ltb, eq-eqb, ne_eqb}
+use Rattle.std.proofs.lemmas.Bool.{cases_Bool, cases_eq, cond-true, cond-false, lt-ltb, eq-eqb, ne_eqb}
 use Rattle.elementary.specs.Ids.{segment}
 use Rattle.elementary.specs.declared.pointer_offset.PointerOffset.{PointerOffset}
-use Rattle.rules.specs.Memory.{Mem, Segment, segment_at, home, bucket, is_chunk, taken_at, marked, remarked, with_segments, freed}
+use Rattle.rules.specs.Memory.{Mem, Segment, bucket, is_chunk, taken_at, marked, with_segments, freed}
 use Rattle.rules.specs.Counts.{Counts, Chunks, counts_of, count_at, recounted, raised, counted, uncounted, released}
 use Rattle.rules.specs.Links.{times}
 use Rattle.rules.specs.Bank.{Places}
 use Rattle.rules.specs.Publisher.{Pub, hold, let_go}
 use Rattle.rules.specs.Books.{held_by, count_of, Ledger, Books, MovesKeepTheBooks}
-use Rattle.rules.proofs.Chunks.{chunk_bucket, chunk_there}
+use Rattle.rules.proofs.Offsets.{one_self, one, times_cons}
+use Rattle.rules.proofs.Chunks.{chunk_there}
 use Rattle.rules.proofs.Marks.{mark_count, mark_same, mark_other}
-use Rattle.rules.proofs.Offsets.{one, times_cons}
-use Rattle.rules.proofs.Recounts.{row_same, row_other, recount_same, recount_other, count_marked}
+use Rattle.rules.proofs.Recounts.{row_same, recount_same, recount_other, count_marked}
 
 -- what is counted is a chunk
 pub counted_chunk : (gs : List Segment) (cs : Counts) (o : ℕ) → 0 < count_at gs cs o → is_chunk gs o ≡ true
@@ -22,84 +23,23 @@ counted_chunk gs cs o h = ⊎_elim (λ yes. yes) (λ no. absurd (omega (arith, h
 -- THE LEDGER
 
 count_room : (c : Chunks) (o : ℕ) → Ledger c → is_chunk c.mem.segments o ≡ true → bucket c.mem.segments o < length (counts_of c.counts (segment o))
-count_room c o l e =
-    let gs = c.mem.segments in
-    let four : segment o < 4 = omega (arith, chunk_there gs o e, l.segments) in
-    omega (arith, (chunk_bucket gs o e).1, l.buckets (segment o), l.room (segment o) four)
+count_room c o l e = grind (arith, chunk_there)
 
 pub ledger_recounted : (c : Chunks) (o n : ℕ) → Ledger c → is_chunk c.mem.segments o ≡ true → Ledger (record { mem = c.mem; counts = recounted c.mem.segments c.counts o n })
-ledger_recounted c o n l e =
-    subst (λ ds. Ledger (record { mem = c.mem; counts = ds })) (sym (cond-true _ _ _ e))
-    (record {
-      segments = l.segments;
-      buckets = l.buckets;
-      room = λ s lt. ⊎_elim
-          (λ same. rw same (let r = l.room (segment o) (omega (arith, lt, same)) in
-          omega (arith, r, ap length (row_same cs (segment o) b n room), length-set (counts_of cs (segment o)) b n)))
-          (λ other. omega (arith, l.room s lt, ap length (row_other cs (segment o) s (set (counts_of cs (segment o)) b n) other)))
-          (cases_eq s (segment o));
-      unused = λ s k le. ⊎_elim
-          (λ same. let apart : k ≡ b → ⊥ = λ eq. omega (arith, (chunk_bucket gs o e).1, eq, le, ap (λ z. length (segment_at gs z).taken) same) in
-          ap (λ z. get_or (counts_of (set cs (segment o) (set (counts_of cs (segment o)) b n)) z) k 0) same
-          ∙ (ap (λ ns. get_or ns k 0) (row_same cs (segment o) b n room)
-          ∙ (get_or-set_other (counts_of cs (segment o)) b k n 0 apart
-          ∙ (ap (λ z. get_or (counts_of cs z) k 0) (sym same) ∙ l.unused s k le))))
-          (λ other. ap (λ ns. get_or ns k 0) (row_other cs (segment o) s (set (counts_of cs (segment o)) b n) other) ∙ l.unused s k le)
-          (cases_eq s (segment o));
-    })
-  where
-    gs : List Segment
-    gs = c.mem.segments
-
-    cs : Counts
-    cs = c.counts
-
-    b : ℕ
-    b = bucket gs o
-
-    room : b < length (counts_of cs (segment o))
-    room = count_room c o l e
+ledger_recounted c o n l e = grind (arith, row_same, length-set, get_or-set_other, count_room)
 
 pub ledger_marked : (c : Chunks) (o : ℕ) (t : Bool) → Ledger c → Ledger (record { mem = with_segments c.mem (marked c.mem.segments o t); counts = c.counts })
-ledger_marked c o t l =
-    let gs = c.mem.segments in
-    let n = length-set gs (segment o) (remarked (home gs o) (bucket gs o) t) in
-    record {
-      segments = omega (arith, n, l.segments);
-      buckets = λ s. omega (arith, mark_count gs o t s, l.buckets s);
-      room = l.room;
-      unused = λ s b le. l.unused s b (omega (arith, le, mark_count gs o t s));
-    }
+ledger_marked c o t l = grind (arith, length-set, mark_count)
 
 -- COUNTS
 
 pub held_count : (c : Chunks) (o x : ℕ) → Ledger c → is_chunk c.mem.segments o ≡ true → count_at c.mem.segments c.counts o < 10
     → count_at c.mem.segments (counted c.mem.segments c.counts o) x ≡ count_at c.mem.segments c.counts x + cond (eqb o x) 1 0
-held_count c o x l e few =
-    let gs = c.mem.segments in
-    let cs = c.counts in
-    ⊎_elim
-    (λ same. let z : ◌≡◌ {A = ℕ} (cond (eqb o x) 1 0) 1 = cond-true _ _ _ (eq-eqb o x same) in
-    let r : count_at gs (counted gs cs o) o ≡ raised (count_at gs cs o) = recount_same gs cs o (raised (count_at gs cs o)) e (count_room c o l e) in
-    let up : raised (count_at gs cs o) ≡ count_at gs cs o + 1 = cond-true _ _ _ (lt-ltb _ _ few) in
-    omega (arith, z, r, up, ap (count_at gs (counted gs cs o)) same, ap (count_at gs cs) same))
-    (λ other. let z : ◌≡◌ {A = ℕ} (cond (eqb o x) 1 0) 0 = cond-false _ _ _ (ne_eqb o x other) in
-    omega (arith, z, recount_other gs cs o x (raised (count_at gs cs o)) other))
-    (cases_eq o x)
+held_count c o x l e few = grind (arith, recount_same, count_room, recount_other)
 
 less_count : (c : Chunks) (o x : ℕ) → Ledger c → 0 < count_at c.mem.segments c.counts o
     → count_at c.mem.segments (uncounted c.mem.segments c.counts o) x + cond (eqb o x) 1 0 ≡ count_at c.mem.segments c.counts x
-less_count c o x l some =
-    let gs = c.mem.segments in
-    let cs = c.counts in
-    let e = counted_chunk gs cs o some in
-    ⊎_elim
-    (λ same. let z : ◌≡◌ {A = ℕ} (cond (eqb o x) 1 0) 1 = cond-true _ _ _ (eq-eqb o x same) in
-    let r : count_at gs (uncounted gs cs o) o ≡ count_at gs cs o - 1 = recount_same gs cs o (count_at gs cs o - 1) e (count_room c o l e) in
-    omega (arith, z, r, some, ap (count_at gs (uncounted gs cs o)) same, ap (count_at gs cs) same))
-    (λ other. let z : ◌≡◌ {A = ℕ} (cond (eqb o x) 1 0) 0 = cond-false _ _ _ (ne_eqb o x other) in
-    omega (arith, z, recount_other gs cs o x (count_at gs cs o - 1) other))
-    (cases_eq o x)
+less_count c o x l some = grind (arith, recount_same, count_room, recount_other)
 
 -- ONE HOLDER MORE
 
@@ -112,19 +52,8 @@ holding loans hand p ps o k some few none =
     record {
       ledger = ledger_recounted c o.value (raised (count_of p o.value)) k.ledger e;
       balance = λ x. omega (arith, n x, k.balance x, times_cons o hand x);
-      free = λ x. ⊎_elim
-          (λ same. let z : ◌≡◌ {A = ℕ} (one o x) 1 = cond-true _ _ _ (eq-eqb o.value x same) in
-          let was : 0 < count_of p x = subst (λ y. 0 < count_of p y) same some in
-          let now : 0 < count_of (hold p o) x = omega (arith, n x, was) in
-          k.free x ∙ (lt-ltb _ _ was ∙ sym (lt-ltb _ _ now)))
-          (λ other. let z : ◌≡◌ {A = ℕ} (one o x) 0 = cond-false _ _ _ (ne_eqb o.value x other) in
-          let same : count_of p x ≡ count_of (hold p o) x = omega (arith, n x, z) in
-          k.free x ∙ ap (ltb 0) same)
-          (cases_eq o.value x);
-      alone = λ x h. ⊎_elim
-          (λ same. absurd (omega (arith, h, none, ap (times loans) same)))
-          (λ other. let z : ◌≡◌ {A = ℕ} (one o x) 0 = cond-false _ _ _ (ne_eqb o.value x other) in omega (arith, n x, z, k.alone x h))
-          (cases_eq o.value x);
+      free = λ x. grind (arith, nat_tests, n x, k.free x, some);
+      alone = λ x h. grind (arith, nat_tests, n x, k.alone x, none, h);
       once = k.once;
     }
 
@@ -154,14 +83,7 @@ released_last c o l free last =
     record {
       ledger = ledger_marked (record { mem = c.mem; counts = ds }) o false (ledger_recounted c o (count_at gs cs o - 1) l e);
       count = n;
-      free = λ x. ⊎_elim
-          (λ same. let z : ◌≡◌ {A = ℕ} (cond (eqb o x) 1 0) 1 = cond-true _ _ _ (eq-eqb o x same) in
-          let none : count_at (marked gs o false) ds x ≤ 0 = omega (arith, n x, z, last, ap (count_at gs cs) same) in
-          subst (λ y. taken_at (marked gs o false) y ≡ false) same (mark_same gs o false e) ∙ sym (le-ltb _ _ none))
-          (λ other. let z : ◌≡◌ {A = ℕ} (cond (eqb o x) 1 0) 0 = cond-false _ _ _ (ne_eqb o x other) in
-          let as_was : count_at gs cs x ≡ count_at (marked gs o false) ds x = omega (arith, n x, z) in
-          mark_other gs o false x e other ∙ (free x ∙ ap (ltb 0) as_was))
-          (cases_eq o x);
+      free = λ x. grind (arith, nat_tests, n x, mark_same gs o false e, mark_other gs o false x e, free x, last);
     }
 
 released_more : (c : Chunks) (o : ℕ) → Ledger c → ((x : ℕ) → taken_at c.mem.segments x ≡ ltb 0 (count_at c.mem.segments c.counts x))
@@ -175,16 +97,7 @@ released_more c o l free more =
     record {
       ledger = ledger_recounted c o (count_at gs cs o - 1) l (counted_chunk gs cs o some);
       count = n;
-      free = λ x. ⊎_elim
-          (λ same. let z : ◌≡◌ {A = ℕ} (cond (eqb o x) 1 0) 1 = cond-true _ _ _ (eq-eqb o x same) in
-          let was : 1 < count_at gs cs x = subst (λ y. 1 < count_at gs cs y) same more in
-          let now : 0 < count_at gs ds x = omega (arith, n x, z, was) in
-          let then : 0 < count_at gs cs x = omega (arith, was) in
-          free x ∙ (lt-ltb _ _ then ∙ sym (lt-ltb _ _ now)))
-          (λ other. let z : ◌≡◌ {A = ℕ} (cond (eqb o x) 1 0) 0 = cond-false _ _ _ (ne_eqb o x other) in
-          let as_was : count_at gs cs x ≡ count_at gs ds x = omega (arith, n x, z) in
-          free x ∙ ap (ltb 0) as_was)
-          (cases_eq o x);
+      free = λ x. grind (arith, nat_tests, n x, free x, more);
     }
 
 release : (c : Chunks) (o : ℕ) → Ledger c → ((x : ℕ) → taken_at c.mem.segments x ≡ ltb 0 (count_at c.mem.segments c.counts x))
@@ -198,17 +111,16 @@ release c o l free some =
     (sym (cond-true _ (freed c.mem o) c.mem (eq-eqb (count_at gs cs o) 1 last) ∙ ap (with_segments c.mem) (cond-true _ _ _ (free o ∙ lt-ltb _ _ some))))
     (released_last c o l free last))
     (λ more. subst (λ m. Released c (with_mem m) o) (sym (cond-false _ (freed c.mem o) c.mem (ne_eqb (count_at gs cs o) 1 more)))
-    (released_more c o l free (more_than_one (count_at gs cs o) some more)))
+    (released_more c o l free (omega (arith, some, more))))
     (cases_eq (count_at gs cs o) 1)
-  where
-    more_than_one : (n : ℕ) → 0 < n → (n ≡ 1 → ⊥) → 1 < n
-    more_than_one n pos ne = ⊎_elim (λ gt. gt) (λ le. absurd (ne (omega (arith, pos, le)))) (cases_lt 1 n)
+
+-- a chunk in hand is let go
+let_gone : (loans hand : List PointerOffset) (p : Pub) (ps : Places) (o : PointerOffset) → Books loans (o ∷ hand) p ps → Released p.chunks (let_go p o).chunks o.value
+let_gone loans hand p ps o k = release p.chunks o.value k.ledger k.free (omega (arith, k.balance o.value, times_cons o hand o.value, one_self o))
 
 pub letting_go : (loans hand : List PointerOffset) (p : Pub) (ps : Places) (o : PointerOffset) → Books loans (o ∷ hand) p ps → Books loans hand (let_go p o) ps
 letting_go loans hand p ps o k =
-    let self : ◌≡◌ {A = ℕ} (one o o.value) 1 = cond-true _ _ _ (eq-eqb o.value o.value refl) in
-    let some : 0 < count_of p o.value = omega (arith, k.balance o.value, times_cons o hand o.value, self) in
-    let r = release p.chunks o.value k.ledger k.free some in
+    let r = let_gone loans hand p ps o k in
     let n : (x : ℕ) → count_of (let_go p o) x + one o x ≡ count_of p x = r.count in
     record {
       ledger = r.ledger;
@@ -220,22 +132,13 @@ letting_go loans hand p ps o k =
 
 pub let_go_count : (loans hand : List PointerOffset) (p : Pub) (ps : Places) (o : PointerOffset) → Books loans (o ∷ hand) p ps
     → (x : ℕ) → count_of (let_go p o) x + one o x ≡ count_of p x
-let_go_count loans hand p ps o k =
-    let self : ◌≡◌ {A = ℕ} (one o o.value) 1 = cond-true _ _ _ (eq-eqb o.value o.value refl) in
-    let some : 0 < count_of p o.value = omega (arith, k.balance o.value, times_cons o hand o.value, self) in
-    (release p.chunks o.value k.ledger k.free some).count
+let_go_count loans hand p ps o k = (let_gone loans hand p ps o k).count
 
 -- ONE HOLDER FOR ANOTHER
 
 pub moving : (loans hand hand' : List PointerOffset) (p : Pub) (ps qs : Places)
     → ((o : ℕ) → held_by p.id qs o + times hand' o ≡ held_by p.id ps o + times hand o) → Books loans hand p ps → Books loans hand' p qs
-moving loans hand hand' p ps qs same k = record {
-  ledger = k.ledger;
-  balance = λ x. omega (arith, k.balance x, same x);
-  free = k.free;
-  alone = k.alone;
-  once = k.once;
-}
+moving loans hand hand' p ps qs same k = search rules
 
 pub moves_keep_the_books : MovesKeepTheBooks
 moves_keep_the_books = record { holding = holding; letting_go = letting_go; moving = moving }

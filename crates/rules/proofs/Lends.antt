@@ -1,16 +1,18 @@
 -- A loan keeps a publisher's books.
-use Rattle.std.proofs.Common.{◌≡◌, ℕ, zero, suc, ◌+◌, ◌/◌, ◌%◌, ◌<◌, ◌≤◌, Bool, true, false, cond, not, ◌&&◌, eqb, ltb, List, [], ◌∷◌, ◌++◌, length, get_or, replicate, Ok, Err, Result, sym, refl, ap, ◌∙◌, subst, inl, inr, ⊎_elim, arith}
+use Rattle.std.proofs.Common.{rules, arith, true, false, ◌≡◌, ℕ, zero, suc, ◌+◌, ◌<◌, ◌≤◌, List, [], ◌∷◌, ◌++◌, length, get_or, replicate, Ok, Err, Result, sym, refl, ◌∙◌, subst, inl, inr, ⊎_elim}
+use Rattle.std.proofs.lemmas.Bool.Decides.{nat_tests}
+use Rattle.std.proofs.lemmas.Bool.{not-true, and_right, cases_eq, ltb-false, and_parts}
 use Rattle.std.proofs.lemmas.List.{get_or_past, get_or_push, get_or_append_left, length_push, length-set, length-replicate}
-use Rattle.std.proofs.lemmas.Bool.{cases_eq, cases_lt, cond-true, cond-false, lt-ltb, le-ltb, ltb-false, eq-eqb, ne_eqb, and_parts, false≢true}
-use Rattle.elementary.specs.Ids.{distance, segment}
+use Rattle.elementary.specs.Ids.{segment}
 use Rattle.elementary.specs.declared.pointer_offset.PointerOffset.{PointerOffset}
 use Rattle.elementary.specs.declared.error.AllocationError.{AllocationError}
 use Rattle.elementary.specs.declared.error.LoanError.{LoanError}
-use Rattle.rules.specs.Memory.{Mem, Segment, Sound, no_segment, segment_at, home, bucket, is_chunk, taken_at, free_at, marked, with_segments, blank, Takes, Allocates}
-use Rattle.rules.specs.Counts.{Counts, Chunks, counts_of, count_at, raised, borrowed}
-use Rattle.rules.specs.Bank.{Goes, Places}
+use Rattle.rules.specs.Memory.{Mem, Segment, Sound, no_segment, segment_at, is_chunk, taken_at, free_at, marked, with_segments, blank, Takes, Allocates}
+use Rattle.rules.specs.Counts.{Chunks, count_at, raised, borrowed}
+use Rattle.rules.specs.Bank.{Places}
 use Rattle.rules.specs.Publisher.{Pub, Side, with_chunks, with_loans, reclaimed_all, lent, Allots, may_loan, Loans}
 use Rattle.rules.specs.Books.{Ledger, Books, InOrder}
+use Rattle.rules.proofs.Banks.{goes}
 use Rattle.rules.proofs.Marks.{mark_count, mark_chunk, mark_same, mark_other}
 use Rattle.rules.proofs.Offsets.{one, times_push}
 use Rattle.rules.proofs.Recounts.{count_marked}
@@ -26,14 +28,6 @@ with_mem p m = with_chunks p (record { mem = m; counts = p.chunks.counts })
 abbrev took : Pub → Mem → PointerOffset → Pub
 took p n o = with_chunks p (borrowed (record { mem = n; counts = p.chunks.counts }) o.value)
 
-not_true : (b : Bool) → not b ≡ true → b ≡ false
-not_true false e = refl
-not_true true e = absurd (false≢true e)
-
-and_false : (a b : Bool) → b ≡ false → (a && b) ≡ false
-and_false false b e = refl
-and_false true b e = e
-
 taking_marked : (loans hand : List PointerOffset) (p : Pub) (ps : Places) (o : PointerOffset) → free_at p.chunks.mem.segments o.value ≡ true
     → Books loans hand p ps → Books (loans ++ o ∷ []) hand (took p (with_segments p.chunks.mem (marked p.chunks.mem.segments o.value true)) o) ps
 taking_marked loans hand p ps o free k =
@@ -43,7 +37,7 @@ taking_marked loans hand p ps o free k =
     let hs = marked gs v true in
     let d : Chunks = record { mem = with_segments p.chunks.mem hs; counts = cs } in
     let a = and_parts (is_chunk gs v) _ free in
-    let untaken : taken_at gs v ≡ false = and_false _ _ (not_true _ a.1) in
+    let untaken : taken_at gs v ≡ false = and_right _ _ (not-true _ a.1) in
     let zero : count_at gs cs v ≤ 0 = ltb-false 0 (count_at gs cs v) (sym (k.free v) ∙ untaken) in
     let there : is_chunk hs v ≡ true = mark_chunk gs v true v ∙ a.0 in
     let ledger : Ledger d = ledger_marked p.chunks v true k.ledger in
@@ -53,20 +47,8 @@ taking_marked loans hand p ps o free k =
     record {
       ledger = ledger_recounted d v (raised (count_at hs cs v)) ledger there;
       balance = λ x. omega (arith, n x, k.balance x, times_push loans o x);
-      free = λ x. ⊎_elim
-          (λ same. let z : ◌≡◌ {A = ℕ} (one o x) 1 = cond-true _ _ _ (eq-eqb v x same) in
-          let now : 0 < count_at hs (borrowed d v).counts x = omega (arith, n x, z) in
-          subst (λ y. taken_at hs y ≡ true) same (mark_same gs v true a.0) ∙ sym (lt-ltb _ _ now))
-          (λ other. let z : ◌≡◌ {A = ℕ} (one o x) 0 = cond-false _ _ _ (ne_eqb v x other) in
-          let as_was : count_at gs cs x ≡ count_at hs (borrowed d v).counts x = omega (arith, n x, z) in
-          mark_other gs v true x a.0 other ∙ (k.free x ∙ ap (ltb 0) as_was))
-          (cases_eq v x);
-      alone = λ x h. ⊎_elim
-          (λ same. let z : ◌≡◌ {A = ℕ} (one o x) 1 = cond-true _ _ _ (eq-eqb v x same) in
-          omega (arith, n x, z, zero, ap (count_at gs cs) same))
-          (λ other. let z : ◌≡◌ {A = ℕ} (one o x) 0 = cond-false _ _ _ (ne_eqb v x other) in
-          omega (arith, n x, z, k.alone x (omega (arith, h, z, times_push loans o x))))
-          (cases_eq v x);
+      free = λ x. grind (arith, nat_tests, n x, mark_same gs v true a.0, mark_other gs v true x a.0, k.free x);
+      alone = λ x h. grind (arith, nat_tests, n x, zero, k.alone x, times_push loans o x, h);
       once = k.once;
     }
 
@@ -80,47 +62,15 @@ added_same : (gs : List Segment) (b : Segment) (s : ℕ) → s ≡ length gs →
 added_same gs b s e = get_or_push gs b no_segment s (sym e)
 
 added_other : (gs : List Segment) (b : Segment) (s : ℕ) → (s ≡ length gs → ⊥) → segment_at (gs ++ b ∷ []) s ≡ segment_at gs s
-added_other gs b s ne =
-    ⊎_elim
-    (λ lt. get_or_append_left gs (b ∷ []) no_segment s lt)
-    (λ le. let gt : length gs < s = past s (length gs) le ne in
-    get_or_past (gs ++ b ∷ []) s no_segment (omega (arith, gt, length_push gs b)) ∙ sym (get_or_past gs s no_segment le))
-    (cases_lt s (length gs))
-  where
-    past : (i n : ℕ) → n ≤ i → (i ≡ n → ⊥) → n < i
-    past i n le ne = ⊎_elim (λ lt. lt) (λ ge. absurd (ne (omega (arith, le, ge)))) (cases_lt n i)
+added_other gs b s ne = grind (arith, get_or_append_left, get_or_past, length_push)
 
 -- an offset of a segment that is not there names nothing
 nothing_named : (gs : List Segment) (x : ℕ) → segment x ≡ length gs → is_chunk gs x ≡ false
-nothing_named gs x e =
-    let none : length (home gs x).taken ≡ 0 = ap (λ (g : Segment). length g.taken) (get_or_past gs (segment x) no_segment (omega (arith, e))) in
-    and_false _ _ (le-ltb (bucket gs x) (length (home gs x).taken) (omega (arith, none)))
-
-added_count : (gs : List Segment) (b : Segment) (cs : Counts) (x : ℕ)
-    → ((s i : ℕ) → length (segment_at gs s).taken ≤ i → get_or (counts_of cs s) i 0 ≡ 0) → count_at (gs ++ b ∷ []) cs x ≡ count_at gs cs x
-added_count gs b cs x unused =
-    ⊎_elim
-    (λ same. let hs = gs ++ b ∷ [] in
-    let none : length (segment_at gs (segment x)).taken ≡ 0 = ap (λ (g : Segment). length g.taken) (get_or_past gs (segment x) no_segment (omega (arith, same))) in
-    let z : get_or (counts_of cs (segment x)) (bucket hs x) 0 ≡ 0 = unused (segment x) (bucket hs x) (omega (arith, none)) in
-    nothing (is_chunk hs x) _ z ∙ sym (cond-false _ _ _ (nothing_named gs x same)))
-    (λ other. ap (λ (g : Segment). cond (eqb (distance x % g.size) 0 && ltb (distance x / g.size) (length g.taken)) (get_or (counts_of cs (segment x)) (distance x / g.size) 0) 0)
-    (added_other gs b (segment x) other))
-    (cases_eq (segment x) (length gs))
-  where
-    nothing : (b : Bool) (n : ℕ) → n ≡ 0 → cond b n 0 ≡ 0
-    nothing true n e = e
-    nothing false n e = refl
+nothing_named gs x e = search (rules, get_or_past)
 
 added_taken : (gs : List Segment) (start size count x : ℕ) → taken_at (gs ++ blank start size count ∷ []) x ≡ taken_at gs x
 added_taken gs start size count x =
-    ⊎_elim
-    (λ same. let hs = gs ++ blank start size count ∷ [] in
-    and_false (is_chunk hs x) _ (ap (λ (g : Segment). get_or g.taken (bucket hs x) false) (added_same gs (blank start size count) (segment x) same) ∙ all_false count (bucket hs x))
-    ∙ sym (ap (λ t. t && get_or (home gs x).taken (bucket gs x) false) (nothing_named gs x same)))
-    (λ other. ap (λ (g : Segment). (eqb (distance x % g.size) 0 && ltb (distance x / g.size) (length g.taken)) && get_or g.taken (distance x / g.size) false)
-    (added_other gs (blank start size count) (segment x) other))
-    (cases_eq (segment x) (length gs))
+    ⊎_elim (λ same. grind (arith, added_same, nothing_named, all_false)) (λ other. grind (arith, added_other)) (cases_eq (segment x) (length gs))
   where
     all_false : (n i : ℕ) → get_or (replicate n false) i false ≡ false
     all_false zero i = refl
@@ -129,31 +79,7 @@ added_taken gs start size count x =
 
 growing_by : (loans hand : List PointerOffset) (p : Pub) (ps : Places) (n : Mem) (start size count : ℕ) → n.segments ≡ p.chunks.mem.segments ++ blank start size count ∷ []
     → length n.segments ≤ 4 → count ≤ 256 → Books loans hand p ps → Books loans hand (with_mem p n) ps
-growing_by loans hand p ps n start size count e four fair k =
-    let gs = p.chunks.mem.segments in
-    let cs = p.chunks.counts in
-    let l = k.ledger in
-    let b = blank start size count in
-    let c : (x : ℕ) → count_at n.segments cs x ≡ count_at gs cs x
-    = λ x. ap (λ hs. count_at hs cs x) e ∙ added_count gs b cs x l.unused in
-    record {
-      ledger = record {
-        segments = four;
-        buckets = λ s. ⊎_elim
-            (λ same. omega (arith, fair, length-replicate count false, ap (λ (g : Segment). length g.taken) (ap (λ hs. segment_at hs s) e ∙ added_same gs b s same)))
-            (λ other. omega (arith, l.buckets s, ap (λ (g : Segment). length g.taken) (ap (λ hs. segment_at hs s) e ∙ added_other gs b s other)))
-            (cases_eq s (length gs));
-        room = l.room;
-        unused = λ s i le. ⊎_elim
-            (λ same. l.unused s i (omega (arith, ap (λ (g : Segment). length g.taken) (get_or_past gs s no_segment (omega (arith, same))))))
-            (λ other. l.unused s i (omega (arith, le, ap (λ (g : Segment). length g.taken) (ap (λ hs. segment_at hs s) e ∙ added_other gs b s other))))
-            (cases_eq s (length gs));
-      };
-      balance = λ x. c x ∙ k.balance x;
-      free = λ x. ap (λ hs. taken_at hs x) e ∙ (added_taken gs start size count x ∙ (k.free x ∙ ap (ltb 0) (sym (c x))));
-      alone = λ x h. c x ∙ k.alone x h;
-      once = k.once;
-    }
+growing_by loans hand p ps n start size count e four fair k = grind (arith, length-replicate, added_same, added_other, get_or_past, added_taken)
 
 -- THE LOAN
 
@@ -162,21 +88,12 @@ Fine hand g = InOrder g.port.loans hand g
 
 -- the books do not look at the list of loans that the publisher keeps
 pub reloaned : (loans hand : List PointerOffset) (p : Pub) (ps : Places) (l : List PointerOffset) → Books loans hand p ps → Books loans hand (with_loans p l) ps
-reloaned loans hand p ps l k = record { ledger = k.ledger; balance = k.balance; free = k.free; alone = k.alone; once = k.once }
+reloaned loans hand p ps l k = search rules
 
 -- a segment that a memory made is no larger than any
 new_count : (limit : ℕ) (m : Mem) (gs : List Segment) (v start size count : ℕ) → m.segments ≡ gs ++ blank start size count ∷ []
     → Sound limit (with_segments m (marked m.segments v true)) → (length m.segments ≤ 4) × (count ≤ 256)
-new_count limit m gs v start size count e s =
-    let ms = m.segments in
-    let last = length gs in
-    let long : length (marked ms v true) ≡ length ms = length-set ms (segment v) _ in
-    let more : length ms ≡ last + 1 = ap length e ∙ length_push gs (blank start size count) in
-    let fair : length (segment_at (marked ms v true) last).taken ≤ 256 = (s.shaped last (omega (arith, long, more))).fair.4 in
-    let same : segment_at ms last ≡ blank start size count = ap (λ hs. segment_at hs last) e ∙ added_same gs (blank start size count) last refl in (
-      omega (arith, s.few, s.limits, long),
-      omega (arith, fair, mark_count ms v true last, ap (λ (g : Segment). length g.taken) same, length-replicate count false),
-    )
+new_count limit m gs v start size count e s = grind (arith, length-set, length_push, added_same, mark_count, length-replicate)
 
 lending : (hand : List PointerOffset) (limit : ℕ) (g : Side) (asked : ℕ) (a : Result PointerOffset AllocationError) (n : Mem)
     → Allocates g.port.chunks.mem asked a n → Sound limit (lent g a n).port.chunks.mem → Fine hand g → Fine hand (lent g a n)
@@ -184,7 +101,7 @@ lending hand limit g asked (Err e) n al s k = k
 lending hand limit g asked (Ok o) n (inl t) s k =
     record {
       books = reloaned _ hand (took g.port n o) g.links (g.port.loans ++ o ∷ []) (taking g.port.loans hand g.port g.links o asked n t k.books);
-      wired = record { own = k.wired.own; apart = k.wired.apart; cover = k.wired.cover; few = k.wired.few };
+      wired = search rules;
     }
 lending hand limit g asked (Ok o) n (inr (m, grown, at, t)) s k =
     let p = g.port in
@@ -193,17 +110,13 @@ lending hand limit g asked (Ok o) n (inr (m, grown, at, t)) s k =
     = growing_by p.loans hand p g.links m grown.start grown.size grown.count grown.segments small.0 small.1 k.books in
     record {
       books = reloaned _ hand (took p n o) g.links (p.loans ++ o ∷ []) (taking p.loans hand (with_mem p m) g.links o asked n t more);
-      wired = record { own = k.wired.own; apart = k.wired.apart; cover = k.wired.cover; few = k.wired.few };
+      wired = search rules;
     }
 
 allotting : (hand : List PointerOffset) (limit : ℕ) (g : Side) (asked align : ℕ) (r : Result PointerOffset LoanError) (h : Side)
     → Allots g asked align r h → Sound limit h.port.chunks.mem → Fine hand g → Fine hand h
 allotting hand limit g asked align r h (a, (n, _, al, _, e)) s k =
     subst (Fine hand) (sym e) (lending hand limit g asked a n al (subst (λ (x : Side). Sound limit x.port.chunks.mem) e s) k)
-
-pub goes : {A B C : Type 0} (t : Bool) → Goes t A B → (A → C) → (B → C) → C
-goes true w f g = f w
-goes false w f g = g w
 
 pub loaning : (hand : List PointerOffset) (limit : ℕ) (g : Side) (asked align : ℕ) (r : Result PointerOffset LoanError) (h : Side)
     → Loans g asked align r h → Sound limit h.port.chunks.mem → InOrder g.port.loans hand g → InOrder h.port.loans hand h

@@ -1,3 +1,4 @@
+pub mod Lists
 pub mod Chunks
 pub mod Marks
 pub mod Totals

@@ -1,10 +1,11 @@
 -- How often a list of offsets has one.
-use Rattle.std.proofs.Common.{◌≡◌, ℕ, ◌+◌, ◌≤◌, true, false, cond, ◌||◌, eqb, List, [], ◌∷◌, ◌++◌, length, sym, refl, ap, ◌∙◌, ⊎_elim, arith}
+use Rattle.std.proofs.Common.{rules, arith, true, false, cond, ◌≡◌, ℕ, ◌+◌, ◌≤◌, eqb, List, [], ◌∷◌, ◌++◌, length, refl}
 use Rattle.std.specs.Option.{option_to_list}
+use Rattle.std.proofs.lemmas.Bool.Decides.{nat_tests}
 use Rattle.std.proofs.lemmas.List.{length_push}
 use Rattle.std.proofs.lemmas.List.Sums.{sum_by-cons, sum_by-append}
-use Rattle.std.proofs.lemmas.Bool.{cases_Bool, eqb-true, or_parts, cond-true, cond-false, ltb-true, cond_both, false≢true}
-use Rattle.container.specs.Queue.{oldest, later, roomy, overflowed, has, without}
+use Rattle.std.proofs.lemmas.Bool.{false≢true}
+use Rattle.container.specs.Queue.{oldest, later, overflowed, has, without}
 use Rattle.elementary.specs.Ids.{same_chunk}
 use Rattle.elementary.specs.declared.pointer_offset.PointerOffset.{PointerOffset}
 use Rattle.rules.specs.Links.{times}
@@ -12,6 +13,9 @@ use Rattle.rules.specs.Links.{times}
 -- one entry's part
 abbrev pub one : PointerOffset → ℕ → ℕ
 one x o = cond (eqb x.value o) 1 0
+
+pub one_self : (x : PointerOffset) → one x x.value ≡ 1
+one_self x = search rules
 
 pub times_cons : (x : PointerOffset) (xs : List PointerOffset) (o : ℕ) → times (x ∷ xs) o ≡ one x o + times xs o
 times_cons x xs o = sum_by-cons (λ (y : PointerOffset). cond (eqb y.value o) 1 0) x xs
@@ -28,48 +32,28 @@ times_split [] o = refl
 times_split (x ∷ xs) o = omega (arith, times_cons x xs o, times_cons x [] o)
 
 pub later_short : (xs : List PointerOffset) (n : ℕ) → length xs ≤ n + 1 → length (later xs) ≤ n
-later_short [] n h = omega arith
-later_short (x ∷ xs) n h = omega arith
+later_short xs n h = search rules
 
 -- a list that has no such entry has it no time
 pub absent_times : (xs : List PointerOffset) (x : PointerOffset) → has same_chunk xs x ≡ false → times xs x.value ≡ 0
 absent_times [] x h = refl
 absent_times (y ∷ ys) x h =
-    let p = or_parts (same_chunk y x) (has same_chunk ys x) h in
-    let z : ◌≡◌ {A = ℕ} (one y x.value) 0 = cond-false _ _ _ p.0 in
-    omega (arith, times_cons y ys x.value, absent_times ys x p.1, z)
+    grind (arith, times_cons y ys x.value, absent_times ys x)
 
 -- the list without one that it has
 pub without_times : (xs : List PointerOffset) (x : PointerOffset) (o : ℕ) → has same_chunk xs x ≡ true → times (without same_chunk xs x) o + one x o ≡ times xs o
 without_times [] x o h = absurd (false≢true h)
 without_times (y ∷ ys) x o h =
-    ⊎_elim
-    (λ same. let e : y.value ≡ x.value = eqb-true _ _ same in
-    let w = ap (λ zs. times zs o) (cond-true _ ys (y ∷ without same_chunk ys x) same) in
-    omega (arith, times_cons y ys o, w, ap {B = ℕ} (λ v. cond (eqb v o) 1 0) e))
-    (λ other. let w = ap (λ zs. times zs o) (cond-false _ ys (y ∷ without same_chunk ys x) other) in
-    let h' : has same_chunk ys x ≡ true = sym (ap (λ b. b || has same_chunk ys x) other) ∙ h in
-    omega (arith, times_cons y ys o, times_cons y (without same_chunk ys x) o, w, without_times ys x o h'))
-    (cases_Bool (same_chunk y x))
+    grind (arith, nat_tests, times_cons y ys o, times_cons y (without same_chunk ys x) o, without_times ys x o)
 
 pub without_length : (xs : List PointerOffset) (x : PointerOffset) (n : ℕ) → length xs ≤ n → length (without same_chunk xs x) ≤ n
 without_length [] x n h = h
-without_length (y ∷ ys) x n h =
-    cond_both (same_chunk y x) ys (y ∷ without same_chunk ys x) (λ zs. length zs ≤ n)
-    (λ _. omega arith)
-    (λ _. let r = without_length ys x (length ys) (omega arith) in omega arith)
+without_length (y ∷ ys) x n h = grind (arith, without_length ys x (length ys))
 
 -- what a push with overflow leaves
 pub overflowed_length : (n : ℕ) (xs : List PointerOffset) (x : PointerOffset) → length xs ≤ n → length (overflowed n xs x) ≤ n
-overflowed_length n xs x h =
-    let p = length_push xs x in
-    cond_both (roomy n xs) (xs ++ x ∷ []) (later (xs ++ x ∷ [])) (λ zs. length zs ≤ n)
-    (λ yes. omega (arith, ltb-true (length xs) n yes))
-    (λ _. later_short (xs ++ x ∷ []) n (omega arith))
+overflowed_length n xs x h = grind (arith, length_push, later_short)
 
 pub overflowed_times : (n : ℕ) (xs : List PointerOffset) (x : PointerOffset) (o : ℕ) → times (overflowed n xs x) o ≤ times xs o + one x o
 overflowed_times n xs x o =
-    let p = times_push xs x o in
-    cond_both (roomy n xs) (xs ++ x ∷ []) (later (xs ++ x ∷ [])) (λ zs. times zs o ≤ times xs o + one x o)
-    (λ _. omega arith)
-    (λ _. omega (arith, times_split (xs ++ x ∷ []) o))
+    grind (arith, times_push xs x o, times_split (xs ++ x ∷ []) o)

@@ -1,20 +1,19 @@
 -- What every step of a publisher's call leaves as it was, beside its books.
-use Rattle.std.proofs.Common.{◌≡◌, ℕ, ◌+◌, ◌*◌, ◌/◌, ◌%◌, ◌^◌, ◌<◌, ◌≤◌, Bool, false, ◌&&◌, eqb, ltb, ◌⊎◌, List, [], ◌∷◌, ◌++◌, length, Some, None, Option, sym, refl, ap, ◌∙◌, subst, ⊎_elim, arith}
+use Rattle.std.proofs.Common.{rules, arith, false, Bool, ◌≡◌, ℕ, ◌+◌, ◌<◌, ◌≤◌, List, [], ◌∷◌, ◌++◌, length, Some, None, Option, sym, refl, ap, ◌∙◌}
 use Rattle.std.specs.Option.{option_to_list}
+use Rattle.std.proofs.lemmas.Bool.Decides.{nat_tests}
 use Rattle.std.proofs.lemmas.List.{length-set}
-use Rattle.std.proofs.lemmas.Bool.{cases_Bool, cases_eq, cond-true, cond-false, ne_eqb}
 use Rattle.elementary.specs.Ids.{same_port, distance, segment}
 use Rattle.elementary.specs.declared.port_id.PortId.{PortId}
 use Rattle.elementary.specs.declared.pointer_offset.PointerOffset.{PointerOffset}
 use Rattle.elementary.specs.declared.link.LinkDetails.{LinkDetails}
-use Rattle.rules.specs.Memory.{Mem, IsMemory, Shaped, Fair, segment_at, home, bucket, is_chunk, taken_at, marked, remarked, with_segments, freed, end_of}
-use Rattle.rules.specs.Counts.{Chunks, count_at, released}
+use Rattle.rules.specs.Publisher.{with_chunks, Pub, Side, hold, let_go, let_go_if, let_go_all}
+use Rattle.rules.specs.Counts.{borrowed, Chunks, released}
+use Rattle.rules.specs.Memory.{Mem, IsMemory, Shaped, segment_at, home, bucket, is_chunk, marked, remarked, with_segments, freed, end_of}
 use Rattle.rules.specs.Bytes.{place, room}
 use Rattle.rules.specs.Bank.{Places, at, SafeBank}
-use Rattle.rules.specs.Publisher.{Pub, Side, hold, let_go, let_go_if, let_go_all}
 use Rattle.rules.specs.Books.{count_of, Books}
 use Rattle.rules.proofs.Marks.{mark_keeps, mark_size, mark_count}
-use Rattle.rules.proofs.Offsets.{one}
 use Rattle.rules.proofs.Keep.{letting_go, hold_count, let_go_count}
 use Rattle.rules.proofs.Views.{own_details, Unmoved, unmoved_refl, unmoved_trans}
 
@@ -32,14 +31,7 @@ pub shape_refl : (m : Mem) → SameShape m m
 shape_refl m = record { number = refl; start = λ s. refl; size = λ s. refl; count = λ s. refl; largest = refl; capacity = refl }
 
 pub shape_trans : {a b c : Mem} → SameShape a b → SameShape b c → SameShape a c
-shape_trans x y = record {
-  number = y.number ∙ x.number;
-  start = λ s. y.start s ∙ x.start s;
-  size = λ s. y.size s ∙ x.size s;
-  count = λ s. y.count s ∙ x.count s;
-  largest = y.largest ∙ x.largest;
-  capacity = y.capacity ∙ x.capacity;
-}
+shape_trans x y = search rules
 
 pub shape_marked : (m : Mem) (o : ℕ) (t : Bool) → SameShape m (with_segments m (marked m.segments o t))
 shape_marked m o t = record {
@@ -52,31 +44,17 @@ shape_marked m o t = record {
 }
 
 shape_freed : (m : Mem) (o : ℕ) → SameShape m (freed m o)
-shape_freed m o = ⊎_elim
-    (λ yes. subst (λ gs. SameShape m (with_segments m gs)) (sym (cond-true _ (marked m.segments o false) m.segments yes)) (shape_marked m o false))
-    (λ no. subst (λ gs. SameShape m (with_segments m gs)) (sym (cond-false _ (marked m.segments o false) m.segments no)) (shape_refl m))
-    (cases_Bool (taken_at m.segments o))
+shape_freed m o = search (rules, shape_marked, shape_refl)
 
 shape_released : (c : Chunks) (o : ℕ) → SameShape c.mem (released c o).mem
-shape_released c o = ⊎_elim
-    (λ yes. subst (SameShape c.mem) (sym (cond-true _ (freed c.mem o) c.mem yes)) (shape_freed c.mem o))
-    (λ no. subst (SameShape c.mem) (sym (cond-false _ (freed c.mem o) c.mem no)) (shape_refl c.mem))
-    (cases_Bool (eqb (count_at c.mem.segments c.counts o) 1))
+shape_released c o = search (rules, shape_freed, shape_refl)
 
 -- a memory by its shape
 end_same : (m n : Mem) (s : ℕ) → SameShape m n → end_of (segment_at n.segments s) ≡ end_of (segment_at m.segments s)
-end_same m n s x =
-    ap (λ k. k + (segment_at n.segments s).size * length (segment_at n.segments s).taken) (x.start s)
-    ∙ (ap (λ k. (segment_at m.segments s).start + k * length (segment_at n.segments s).taken) (x.size s)
-    ∙ ap (λ k. (segment_at m.segments s).start + (segment_at m.segments s).size * k) (x.count s))
+end_same m n s x = search rules
 
 shaped_same : (m n : Mem) (s : ℕ) → SameShape m n → Shaped m (segment_at m.segments s) → Shaped n (segment_at n.segments s)
-shaped_same m n s x h = record {
-  fair = subst (λ z. Fair z (length (segment_at n.segments s).taken)) (sym (x.size s)) (subst (Fair (segment_at m.segments s).size) (sym (x.count s)) h.fair);
-  largest = omega (arith, x.size s, x.largest, h.largest);
-  within = omega (arith, end_same m n s x, x.capacity, h.within);
-  low = subst (λ k. k < 2 ^ 63) (sym (end_same m n s x)) h.low;
-}
+shaped_same m n s x h = search rules
 
 pub shape_memory : (m n : Mem) → SameShape m n → IsMemory m → IsMemory n
 shape_memory m n x (limit, s) = (
@@ -86,19 +64,13 @@ shape_memory m n x (limit, s) = (
     some = omega (arith, x.number, s.some);
     few = omega (arith, x.number, s.few);
     shaped = λ k lt. shaped_same m n k x (s.shaped k (omega (arith, x.number, lt)));
-    apart = λ k l lt le. subst (λ z. (z ≤ (segment_at n.segments l).start) ⊎ (end_of (segment_at n.segments l) ≤ (segment_at n.segments k).start)) (sym (end_same m n k x))
-        (subst (λ z. (end_of (segment_at m.segments k) ≤ z) ⊎ (end_of (segment_at n.segments l) ≤ (segment_at n.segments k).start)) (sym (x.start l))
-        (subst (λ z. (end_of (segment_at m.segments k) ≤ (segment_at m.segments l).start) ⊎ (z ≤ (segment_at n.segments k).start)) (sym (end_same m n l x))
-        (subst (λ z. (end_of (segment_at m.segments k) ≤ (segment_at m.segments l).start) ⊎ (end_of (segment_at m.segments l) ≤ z)) (sym (x.start k))
-        (s.apart k l lt (omega (arith, x.number, le))))));
+    apart = λ k l lt le. grind (arith, end_same m n k x, end_same m n l x, x.start k, x.start l, x.number, s.apart k l);
   },
 )
 
 -- what an offset names
 pub shape_chunk : (m n : Mem) (o : ℕ) → SameShape m n → is_chunk n.segments o ≡ is_chunk m.segments o
-shape_chunk m n o x =
-    let by_size : ℕ → ℕ → Bool = λ z k. eqb (distance o % z) 0 && ltb (distance o / z) k in
-    ap (λ z. by_size z (length (home n.segments o).taken)) (x.size (segment o)) ∙ ap (by_size (home m.segments o).size) (x.count (segment o))
+shape_chunk m n o x = search rules
 
 pub shape_place : (m n : Mem) (o : ℕ) → SameShape m n → place n o ≡ place m o
 shape_place m n o x = ap (λ k. k + distance o) (x.start (segment o))
@@ -148,32 +120,12 @@ pub record Passage (g h : Side) : Type 0 where
   pub closed : h.port.closed ≡ g.port.closed
 
 pub passage_trans : {g m h : Side} → Passage g m → Passage m h → Passage g h
-passage_trans a b = record {
-  course = course_trans a.course b.course;
-  loans = b.loans ∙ a.loans;
-  history = b.history ∙ a.history;
-  closed = b.closed ∙ a.closed;
-}
+passage_trans a b = search (rules, course_trans)
 
 -- links alone change
 pub passage_links : (p : Pub) (ps qs : Places) → (SafeBank ps → SafeBank qs) → (Fits p ps → Fits p qs) → ((a : PortId) → same_port a p.id ≡ false → Unmoved a ps qs)
     → Passage (record { port = p; links = ps }) (record { port = p; links = qs })
-passage_links p ps qs bank fits others = record {
-  course = record {
-    id = refl;
-    settings = refl;
-    bytes = refl;
-    slots = refl;
-    shape = shape_refl p.chunks.mem;
-    fewer = λ o h. h;
-    bank = bank;
-    fits = fits;
-    others = others;
-  };
-  loans = refl;
-  history = refl;
-  closed = refl;
-}
+passage_links p ps qs bank fits others = search rules
 
 pub passage_refl : (g : Side) → Passage g g
 passage_refl g = passage_links g.port g.links g.links (λ s. s) (λ f. f) (λ a ne. unmoved_refl a g.links)
@@ -181,17 +133,7 @@ passage_refl g = passage_links g.port g.links g.links (λ s. s) (λ f. f) (λ a 
 -- another history, other loans, open or closed
 pub course_lists : (p : Pub) (ps : Places) (loans history : List PointerOffset) (closed : Bool)
     → Course (record { port = p; links = ps }) (record { port = record { id = p.id; settings = p.settings; chunks = p.chunks; bytes = p.bytes; loans = loans; history = history; slots = p.slots; cycle = p.cycle; seen = p.seen; closed = closed }; links = ps })
-course_lists p ps loans history closed = record {
-  id = refl;
-  settings = refl;
-  bytes = refl;
-  slots = refl;
-  shape = shape_refl p.chunks.mem;
-  fewer = λ o h. h;
-  bank = λ s. s;
-  fits = λ f. f;
-  others = λ a ne. unmoved_refl a ps;
-}
+course_lists p ps loans history closed = search rules
 
 -- LETTING GO
 
@@ -199,24 +141,15 @@ pub all_go : (loans hand : List PointerOffset) (ps : Places) (os : List PointerO
 all_go loans hand ps [] p k = k
 all_go loans hand ps (o ∷ os) p k = all_go loans hand ps os (let_go p o) (letting_go loans (os ++ hand) p ps o k)
 
+-- chunks alone change
+passage_chunks : (p : Pub) (ps : Places) (c : Chunks) → SameShape p.chunks.mem c.mem → ((o : ℕ) → 0 < count_of (with_chunks p c) o → 0 < count_of p o)
+    → Passage (record { port = p; links = ps }) (record { port = with_chunks p c; links = ps })
+passage_chunks p ps c shape fewer = search rules
+
 pub passage_let_go : (loans hand : List PointerOffset) (ps : Places) (o : PointerOffset) (p : Pub) → Books loans (o ∷ hand) p ps
     → Passage (record { port = p; links = ps }) (record { port = let_go p o; links = ps })
-passage_let_go loans hand ps o p k = record {
-  course = record {
-    id = refl;
-    settings = refl;
-    bytes = refl;
-    slots = refl;
-    shape = shape_released p.chunks o.value;
-    fewer = λ x h. omega (arith, let_go_count loans hand p ps o k x, h);
-    bank = λ s. s;
-    fits = λ f. f;
-    others = λ a ne. unmoved_refl a ps;
-  };
-  loans = refl;
-  history = refl;
-  closed = refl;
-}
+passage_let_go loans hand ps o p k =
+    passage_chunks p ps (released p.chunks o.value) (shape_released p.chunks o.value) (λ x h. omega (arith, let_go_count loans hand p ps o k x, h))
 
 pub passage_all : (loans hand : List PointerOffset) (ps : Places) (os : List PointerOffset) (p : Pub) → Books loans (os ++ hand) p ps
     → Passage (record { port = p; links = ps }) (record { port = let_go_all p os; links = ps })
@@ -236,25 +169,8 @@ passage_evict loans hand ps (Some o) p k = passage_let_go loans hand ps o p k
 
 pub passage_hold : (loans hand : List PointerOffset) (ps : Places) (o : PointerOffset) (p : Pub) → Books loans hand p ps → 0 < count_of p o.value → count_of p o.value < 10
     → Passage (record { port = p; links = ps }) (record { port = hold p o; links = ps })
-passage_hold loans hand ps o p k some few = record {
-  course = record {
-    id = refl;
-    settings = refl;
-    bytes = refl;
-    slots = refl;
-    shape = shape_refl p.chunks.mem;
-    fewer = λ x h. ⊎_elim
-        (λ same. subst (λ y. 0 < count_of p y) same some)
-        (λ other. let z : ◌≡◌ {A = ℕ} (one o x) 0 = cond-false _ _ _ (ne_eqb o.value x other) in omega (arith, hold_count loans hand p ps o k some few x, z, h))
-        (cases_eq o.value x);
-    bank = λ s. s;
-    fits = λ f. f;
-    others = λ a ne. unmoved_refl a ps;
-  };
-  loans = refl;
-  history = refl;
-  closed = refl;
-}
+passage_hold loans hand ps o p k some few =
+    passage_chunks p ps (borrowed p.chunks o.value) (shape_refl p.chunks.mem) (λ x h. grind (arith, nat_tests, hold_count loans hand p ps o k some few x, some, h))
 
 pub fits_unmoved : (p : Pub) (ps qs : Places) → ((i : ℕ) → own_details p.id (at qs i) ≡ own_details p.id (at ps i)) → Fits p ps → Fits p qs
 fits_unmoved p ps qs same f i d e = f i d (sym (same i) ∙ e)

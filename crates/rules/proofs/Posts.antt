@@ -1,53 +1,41 @@
 -- Sending to one link keeps a publisher in order.
-use Rattle.std.proofs.Common.{◌≡◌, ℕ, zero, suc, ◌+◌, ◌<◌, ◌≤◌, Bool, true, false, cond, ◌||◌, List, [], ◌∷◌, ◌++◌, length, get_or, set, is_some, is_ok, Some, None, Ok, Err, sum_by, Option, Result, sym, refl, ap, ◌∙◌, ⊎_elim, arith}
+use Rattle.std.proofs.Common.{rules, arith, true, false, Bool, cond, ◌≡◌, ℕ, zero, suc, ◌+◌, ◌<◌, ◌≤◌, List, [], ◌∷◌, ◌++◌, length, get_or, set, Some, None, Ok, Err, sum_by, Option, Result, sym, refl, ap, ◌∙◌, ⊎_elim}
 use Rattle.std.specs.Option.{option_to_list, option_map}
+use Rattle.std.proofs.lemmas.Option.{none-some}
+use Rattle.std.proofs.lemmas.List.Sums.{sum_by-le-sum_by, count_by-le-length, sum_by-cons, sum_by-set}
 use Rattle.std.proofs.lemmas.List.{get_or-set_same, get_or-set_other, get_or_past, set_past}
-use Rattle.std.proofs.lemmas.List.Sums.{sum_by-cons, sum_by-set}
-use Rattle.std.proofs.lemmas.Bool.{cases_Bool, cases_eq, cases_lt, cond_both, cond-true, cond-false, or_parts, false≢true}
-use Rattle.container.specs.Queue.{roomy, later, oldest, overflowed, evicted, has}
-use Rattle.elementary.specs.Ids.{same_chunk}
+use Rattle.std.proofs.lemmas.Bool.{cases_lt, cond_both, false≢true}
+use Rattle.container.specs.Queue.{roomy, later, oldest, overflowed, evicted}
 use Rattle.elementary.specs.declared.port_id.PortId.{PortId}
 use Rattle.elementary.specs.declared.pointer_offset.PointerOffset.{PointerOffset}
 use Rattle.elementary.specs.declared.link.Mark.{Mark}
-use Rattle.elementary.specs.declared.link.Mark.TheVariants.{Sound, Corrupted, Broken}
 use Rattle.elementary.specs.declared.error.ZeroCopySendError.{ZeroCopySendError}
 use Rattle.elementary.specs.declared.error.ZeroCopySendError.TheVariants as sending
+use Rattle.rules.specs.Books.{owns, mine, held_here, held_by, count_of, Books, Wired, InOrder, CallsKeepOrder}
 use Rattle.rules.specs.Pools.{by}
-use Rattle.rules.specs.Links.{Link, attached, lists, listed, times, marked_send, send_answer, send_after}
+use Rattle.rules.specs.Links.{Link, attached, listed, times, marked_send, send_answer, send_after}
 use Rattle.rules.specs.Bank.{Places, at, sends, sent, SoundBank}
 use Rattle.rules.specs.Publisher.{Connection, Pub, Side, slot_at, hold, let_go_if, taken_up}
-use Rattle.rules.specs.Books.{mine, held_here, held_by, count_of, Books, owns, Wired, InOrder, CallsKeepOrder}
+use Rattle.rules.proofs.Views.{kept_by, own_details, unmoved_changed}
 use Rattle.rules.proofs.Offsets.{one, times_cons, times_append, times_push, times_split, absent_times}
 use Rattle.rules.proofs.Banks.{listed_times, accepted}
-use Rattle.rules.proofs.Keep.{holding, moving}
 use Rattle.rules.proofs.Safe.{safe_sent}
-use Rattle.rules.proofs.Views.{own_changed, unmoved_changed}
+use Rattle.rules.proofs.Keep.{holding, moving}
 use Rattle.rules.proofs.Passages.{Passage, passage_trans, passage_hold, evict, passage_evict, passage_links, fits_unmoved}
-use Rattle.rules.proofs.Reclaims.{held_set, owns_changed, reclaiming, filling, returning}
+use Rattle.rules.proofs.Reclaims.{held_set, reclaiming, filling, returning}
 use Rattle.rules.proofs.Lends.{loaning}
+use Rattle.rules.proofs.Removes.{rewired, slot_there, removing, closing}
 use Rattle.rules.proofs.Cycles.{beginning, tagging, sweeping}
-use Rattle.rules.proofs.Removes.{rewired, place_of, slot_there, removing, closing}
 
 -- ONE LINK
 
 -- what comes in and what leaves
 pub overflowed_evicted : (n : ℕ) (xs : List PointerOffset) (x : PointerOffset) (o : ℕ) → times (overflowed n xs x) o + times (option_to_list (evicted n xs x)) o ≡ times xs o + one x o
-overflowed_evicted n xs x o =
-    ⊎_elim
-    (λ yes. omega (
-      arith,
-      times_push xs x o,
-      ap (λ ys. times ys o) (cond-true (roomy n xs) (xs ++ x ∷ []) (later (xs ++ x ∷ [])) yes),
-      ap (λ y. times (option_to_list y) o) (cond-true (roomy n xs) None (oldest (xs ++ x ∷ [])) yes),
-    ))
-    (λ no. omega (
-      arith,
-      times_push xs x o,
-      times_split (xs ++ x ∷ []) o,
-      ap (λ ys. times ys o) (cond-false (roomy n xs) (xs ++ x ∷ []) (later (xs ++ x ∷ [])) no),
-      ap (λ y. times (option_to_list y) o) (cond-false (roomy n xs) None (oldest (xs ++ x ∷ [])) no),
-    ))
-    (cases_Bool (roomy n xs))
+overflowed_evicted n xs x o = go (roomy n xs)
+  where
+    go : (b : Bool) → times (cond b (xs ++ x ∷ []) (later (xs ++ x ∷ []))) o + times (option_to_list (cond b None (oldest (xs ++ x ∷ [])))) o ≡ times xs o + one x o
+    go true = omega (arith, times_push xs x o)
+    go false = omega (arith, times_push xs x o, times_split (xs ++ x ∷ []) o)
 
 abbrev payload : Result (Option PointerOffset) ZeroCopySendError → Option PointerOffset
 payload (Ok e) = e
@@ -55,51 +43,25 @@ payload (Err f) = None
 
 answer_is : (a : Bool) (m : Mark) (l : Link) (o : PointerOffset) (e : Option PointerOffset) → cond a (marked_send m l o) (Err sending.NotConnected) ≡ Ok e
     → evicted l.details.buffer_size l.waiting o ≡ e
-answer_is false m l o e h = absurd (false≢true (ap is_ok h))
-answer_is true Broken l o e h = absurd (false≢true (ap is_ok h))
-answer_is true Corrupted l o e h = absurd (false≢true (ap is_ok h))
-answer_is true Sound l o e h =
-    let n = l.details.buffer_size in
-    let room = roomy n l.waiting || l.details.enable_safe_overflow in
-    let last : Result (Option PointerOffset) ZeroCopySendError = cond room (Ok (evicted n l.waiting o)) (Err sending.ReceiveBufferFull) in
-    ⊎_elim
-    (λ yes. absurd (false≢true (ap is_ok (sym (cond-true (lists l o) (Err sending.UsedChunkListFull) last yes) ∙ h))))
-    (λ no. let is : last ≡ Ok e = sym (cond-false (lists l o) (Err sending.UsedChunkListFull) last no) ∙ h in
-    ⊎_elim
-    (λ roomy_or. ap payload (sym (cond-true room (Ok (evicted n l.waiting o)) (Err sending.ReceiveBufferFull) roomy_or) ∙ is))
-    (λ full. absurd (false≢true (ap is_ok (sym (cond-false room (Ok (evicted n l.waiting o)) (Err sending.ReceiveBufferFull) full) ∙ is))))
-    (cases_Bool room))
-    (cases_Bool (lists l o))
+answer_is a m l o e h = search rules
 
 sent_times : (l : Link) (o : PointerOffset) (e : Option PointerOffset) (x : ℕ) → send_answer l o ≡ Ok e
     → times (listed (send_after l o)) x + times (option_to_list e) x ≡ times (listed l) x + one o x
 sent_times l o e x h =
     let n = l.details.buffer_size in
-    let out : times (option_to_list (evicted n l.waiting o)) x ≡ times (option_to_list e) x = ap (λ y. times (option_to_list y) x) (answer_is (attached l.sender_end) l.mark l o e h) in
-    let now : times (send_after l o).waiting x ≡ times (overflowed n l.waiting o) x = ap (λ ys. times ys x) (cond-true _ _ _ (ap is_ok h)) in
-    omega (arith, out, now, overflowed_evicted n l.waiting o x, listed_times (send_after l o) x, listed_times l x)
+    grind (arith, answer_is (attached l.sender_end) l.mark l o e h, overflowed_evicted n l.waiting o x, listed_times (send_after l o) x, listed_times l x)
 
 here_sent : (id : PortId) (ps : Places) (i : ℕ) (o : PointerOffset) (e : Option PointerOffset) (x : ℕ) → owns id (at ps i) ≡ true → sends ps i o ≡ Ok e
     → held_here id x (option_map (λ l. send_after l o) (at ps i)) + times (option_to_list e) x ≡ held_here id x (at ps i) + one o x
-here_sent id ps i o e x = through (at ps i)
-  where
-    through : (y : Option Link) → owns id y ≡ true → by y (Err sending.NotConnected) (λ l. send_answer l o) ≡ Ok e
-        → held_here id x (option_map (λ l. send_after l o) y) + times (option_to_list e) x ≡ held_here id x y + one o x
-    through None w h = absurd (false≢true w)
-    through (Some l) w h =
-        let now : held_here id x (Some (send_after l o)) ≡ times (listed (send_after l o)) x = cond-true _ _ _ w in
-        let was : held_here id x (Some l) ≡ times (listed l) x = cond-true _ _ _ w in
-        omega (arith, now, was, sent_times l o e x h)
+here_sent id ps i o e x h k = grind (arith, sent_times)
 
 -- POSTING
 
 if_id : (p : Pub) (e : Option PointerOffset) → (let_go_if p e).id ≡ p.id
-if_id p None = refl
-if_id p (Some o) = refl
+if_id p e = search rules
 
 pub if_slots : (p : Pub) (e : Option PointerOffset) → (let_go_if p e).slots ≡ p.slots
-if_slots p None = refl
-if_slots p (Some o) = refl
+if_slots p e = search rules
 
 pub record Posted (loans hand : List PointerOffset) (g h : Side) : Type 0 where
   pub order : InOrder loans hand h
@@ -124,19 +86,16 @@ one_post loans hand g i o e own takes some few lent k =
       order = record {
         books = evict loans hand qs e (hold p o) out;
         wired = rewired p (let_go_if (hold p o) e) qs (if_id (hold p o) e) (if_slots (hold p o) e)
-            (record { own = λ j c s. owns_changed after (λ _ _. refl) p.id ps i c.place own ∙ w.own j c s; apart = w.apart; cover = λ j e'. w.cover j (sym (owns_changed after (λ _ _. refl) p.id ps i j own) ∙ e'); few = w.few });
+            (record { own = λ j c s. kept_by (owns p.id) after (λ _. refl) ps i c.place ∙ w.own j c s; apart = w.apart; cover = λ j e'. w.cover j (sym (kept_by (owns p.id) after (λ _. refl) ps i j) ∙ e'); few = w.few });
       };
       passage = passage_trans (passage_hold loans hand ps o p k.books some few)
           (passage_trans
-          (passage_links (hold p o) ps qs (safe_sent ps i o) (fits_unmoved (hold p o) ps qs (λ j. own_changed after (λ _ _. refl) p.id ps i j)) (λ a ne. unmoved_changed a p.id ps i after (λ _. refl) ne own))
+          (passage_links (hold p o) ps qs (safe_sent ps i o) (fits_unmoved (hold p o) ps qs (kept_by (own_details p.id) after (λ _. refl) ps i)) (λ a ne. unmoved_changed a p.id ps i after (λ _. refl) ne own))
           (passage_evict loans hand qs e (hold p o) out));
       slots = if_slots (hold p o) e;
     }
 
 -- HOW MANY MAY HOLD ONE CHUNK
-
-no_slot : (c : Connection) → ◌≡◌ {A = Option Connection} None (Some c) → ⊥
-no_slot c e = false≢true (ap is_some e)
 
 -- how often a slot's link holds a chunk
 abbrev slot_holds : PortId → ℕ → Places → Option Connection → ℕ
@@ -147,45 +106,31 @@ nothing_owned id o [] h = omega arith
 nothing_owned id o (x ∷ ps) h = omega (arith, sum_by-cons (held_here id o) x ps, nothing_owned id o ps (λ j. h (suc j)), here x (h 0))
   where
     here : (y : Option Link) → (owns id y ≡ true → ⊥) → held_here id o y ≤ 0
-    here None f = omega arith
-    here (Some l) f = ⊎_elim (λ yes. absurd (f yes)) (λ no. omega (arith, cond-false (mine id l) (times (listed l) o) 0 no)) (cases_Bool (mine id l))
+    here y f = search rules
 
 -- one place emptied
 emptied_place : (id : PortId) (o : ℕ) (ps : Places) (i : ℕ) → held_by id ps o ≤ held_by id (set ps i None) o + held_here id o (at ps i)
-emptied_place id o ps i =
-    ⊎_elim
-    (λ lt. omega (arith, sum_by-set (held_here id o) ps i None None lt))
-    (λ le. omega (arith, ap (λ qs. held_by id qs o) (set_past ps i None le)))
-    (cases_lt i (length ps))
+emptied_place id o ps i = grind (arith, sum_by-set, set_past)
 
 none_there : (ps : Places) (i : ℕ) → at (set ps i None) i ≡ None
-none_there ps i =
-    ⊎_elim (λ lt. get_or-set_same ps i None None lt) (λ le. ap (λ qs. at qs i) (set_past ps i None le) ∙ get_or_past ps i None le) (cases_lt i (length ps))
+none_there ps i = grind (arith, get_or-set_same, set_past, get_or_past)
 
 emptied_less : (id : PortId) (o : ℕ) (ps : Places) (i : ℕ) (xs : List (Option Connection)) → sum_by (slot_holds id o (set ps i None)) xs ≤ sum_by (slot_holds id o ps) xs
-emptied_less id o ps i [] = omega arith
-emptied_less id o ps i (x ∷ xs) =
-    omega (arith, sum_by-cons (slot_holds id o (set ps i None)) x xs, sum_by-cons (slot_holds id o ps) x xs, emptied_less id o ps i xs, here x)
+emptied_less id o ps i xs = sum_by-le-sum_by (slot_holds id o (set ps i None)) (slot_holds id o ps) xs here
   where
     here : (y : Option Connection) → slot_holds id o (set ps i None) y ≤ slot_holds id o ps y
-    here None = omega arith
-    here (Some c) =
-        ⊎_elim
-        (λ same. omega (arith, ap (λ j. held_here id o (at (set ps i None) j)) same, ap (held_here id o) (none_there ps i)))
-        (λ other. omega (arith, ap (held_here id o) (get_or-set_other ps i c.place None None other)))
-        (cases_eq c.place i)
+    here y = search (rules, none_there, get_or-set_other)
 
 -- all that hold a chunk are links of slots
 slots_hold : (id : PortId) (o : ℕ) (xs : List (Option Connection)) (ps : Places)
     → ((j : ℕ) → owns id (at ps j) ≡ true → (i : ℕ) × ((c : Connection) × (get_or xs i None ≡ Some c) × (c.place ≡ j)))
     → held_by id ps o ≤ sum_by (slot_holds id o ps) xs
-slots_hold id o [] ps cover = nothing_owned id o ps (λ j e. let f = cover j e in no_slot f.1.0 f.1.1)
+slots_hold id o [] ps cover = nothing_owned id o ps (λ j e. let f = cover j e in none-some f.1.0 f.1.1)
 slots_hold id o (None ∷ xs) ps cover =
     omega (arith, sum_by-cons (slot_holds id o ps) None xs, slots_hold id o xs ps (λ j e. let f = cover j e in later_slot j f.0 f.1.0 f.1.1 f.1.2))
   where
     later_slot : (j i : ℕ) (c : Connection) → get_or (None ∷ xs) i None ≡ Some c → c.place ≡ j → (i : ℕ) × ((c : Connection) × (get_or xs i None ≡ Some c) × (c.place ≡ j))
-    later_slot j zero c e p = absurd (no_slot c e)
-    later_slot j (suc i) c e p = (i, (c, e, p))
+    later_slot j i c e p = search rules
 slots_hold id o (Some d ∷ xs) ps cover =
     omega (
       arith,
@@ -196,8 +141,7 @@ slots_hold id o (Some d ∷ xs) ps cover =
     )
   where
     later_slot : (j i : ℕ) (c : Connection) → (j ≡ d.place → ⊥) → get_or (Some d ∷ xs) i None ≡ Some c → c.place ≡ j → (i : ℕ) × ((c : Connection) × (get_or xs i None ≡ Some c) × (c.place ≡ j))
-    later_slot j zero c ne e p = absurd (ne (sym p ∙ ap place_of (sym e)))
-    later_slot j (suc i) c ne e p = (i, (c, e, p))
+    later_slot j i c ne e p = search rules
 
     rest : (j : ℕ) → owns id (at (set ps d.place None) j) ≡ true → (i : ℕ) × ((c : Connection) × (get_or xs i None ≡ Some c) × (c.place ≡ j))
     rest j e =
@@ -207,8 +151,7 @@ slots_hold id o (Some d ∷ xs) ps cover =
 
 -- at most one each
 at_most_all : {X : Type 0} (f : X → ℕ) (xs : List X) → ((x : X) → f x ≤ 1) → sum_by f xs ≤ length xs
-at_most_all f [] most = omega arith
-at_most_all f (x ∷ xs) most = omega (arith, sum_by-cons f x xs, most x, at_most_all f xs most)
+at_most_all f xs most = omega (arith, sum_by-le-sum_by f (λ _. 1) xs most, count_by-le-length (λ _. true) xs)
 
 -- and none in one of them
 one_without : {X : Type 0} (f : X → ℕ) (d : X) (xs : List X) (k : ℕ) → ((x : X) → f x ≤ 1) → k < length xs → f (get_or xs k d) ≡ 0 → sum_by f xs + 1 ≤ length xs
@@ -223,11 +166,7 @@ untaken id ps i o e = through (at ps i)
     through : (x : Option Link) → by x (Err sending.NotConnected) (λ l. send_answer l o) ≡ Ok e → held_here id o.value x ≡ 0
     through None h = refl
     through (Some l) h =
-        let a = or_parts (has same_chunk l.waiting o) (has same_chunk l.borrowed o || has same_chunk l.returned o) (accepted l o (ap is_ok h)) in
-        let b = or_parts (has same_chunk l.borrowed o) (has same_chunk l.returned o) a.1 in
-        let z : times (listed l) o.value ≡ 0
-        = omega (arith, listed_times l o.value, absent_times l.waiting o a.0, absent_times l.borrowed o b.0, absent_times l.returned o b.1) in
-        ⊎_elim (λ yes. cond-true _ _ _ yes ∙ z) (λ no. cond-false _ _ _ no) (cases_Bool (mine id l))
+        grind (arith, accepted l o, listed_times l o.value, absent_times l.waiting o, absent_times l.borrowed o, absent_times l.returned o)
 
 at_most_one : (id : PortId) (ps : Places) (o : ℕ) → SoundBank ps → (x : Option Connection) → slot_holds id o ps x ≤ 1
 at_most_one id ps o s None = omega arith

@@ -1,46 +1,34 @@
 -- Reclaiming, filling and returning keep a publisher's books.
-use Rattle.std.proofs.Common.{◌≡◌, ℕ, suc, ◌+◌, ◌<◌, true, cond, List, [], ◌∷◌, ◌++◌, length, get_or, set, Some, None, fold, Option, sym, refl, ap, ◌∙◌, subst, ⊎_elim, arith}
+use Rattle.std.proofs.Common.{rules, arith, true, cond, ◌≡◌, ℕ, suc, ◌+◌, ◌<◌, List, [], ◌∷◌, ◌++◌, length, get_or, set, Some, None, fold, Option, sym, refl, ap, ◌∙◌, subst}
 use Rattle.std.specs.Option.{option_map}
-use Rattle.std.proofs.lemmas.List.{get_or-set_same, get_or-set_other, get_or_past}
+use Rattle.std.proofs.lemmas.Bool.{cond_both, and_parts, false≢true}
 use Rattle.std.proofs.lemmas.List.Sums.{sum_by-set}
-use Rattle.std.proofs.lemmas.Bool.{cases_Bool, cases_eq, cases_lt, cond-true, cond-false, and_parts, false≢true}
 use Rattle.container.specs.Queue.{without}
 use Rattle.elementary.specs.Ids.{same_chunk}
 use Rattle.elementary.specs.declared.port_id.PortId.{PortId}
 use Rattle.elementary.specs.declared.pointer_offset.PointerOffset.{PointerOffset}
+use Rattle.rules.specs.Books.{owns, held_here, held_by, Books, InOrder, beside}
 use Rattle.rules.specs.Pools.{by}
-use Rattle.rules.specs.Links.{Link, attached, listed, times}
+use Rattle.rules.specs.Links.{Link, attached, times}
 use Rattle.rules.specs.Bank.{Places, at, changed}
 use Rattle.rules.specs.Publisher.{Connection, Pub, Side, slot_at, with_loans, let_go, let_go_all, returned_at, cleared, emptied, reclaimed_all, is_live, unloaned, fill_after, return_after}
-use Rattle.rules.specs.Books.{mine, held_here, held_by, Books, owns, InOrder, beside}
+use Rattle.rules.proofs.Views.{kept_by, own_details, unmoved_changed}
+use Rattle.rules.proofs.Lists.{within}
 use Rattle.rules.proofs.Offsets.{one, times_cons, times_append, without_times}
 use Rattle.rules.proofs.Banks.{listed_times}
-use Rattle.rules.proofs.Keep.{letting_go, moving}
 use Rattle.rules.proofs.Safe.{safe_cleared}
-use Rattle.rules.proofs.Views.{own_changed, unmoved_changed}
+use Rattle.rules.proofs.Keep.{letting_go, moving}
 use Rattle.rules.proofs.Passages.{Passage, passage_refl, passage_trans, all_go, passage_all, passage_links, fits_unmoved}
 
 -- ONE PLACE
 
 pub owned_there : (id : PortId) (ps : Places) (i : ℕ) → owns id (at ps i) ≡ true → i < length ps
-owned_there id ps i e = ⊎_elim (λ lt. lt) (λ le. absurd (false≢true (sym (ap (owns id) (get_or_past ps i None le)) ∙ e))) (cases_lt i (length ps))
+owned_there id ps i e = within ps i None (λ none. false≢true (sym (ap (owns id) none) ∙ e))
 
 -- another link at one place of the bank
 pub held_set : (id : PortId) (ps : Places) (i : ℕ) (x : Option Link) (o : ℕ) → owns id (at ps i) ≡ true
     → held_by id (set ps i x) o + held_here id o (at ps i) ≡ held_by id ps o + held_here id o x
 held_set id ps i x o e = sum_by-set (held_here id o) ps i x None (owned_there id ps i e)
-
-pub owns_changed : (f : Link → Link) → ((id : PortId) (l : Link) → mine id (f l) ≡ mine id l) → (id : PortId) (ps : Places) (i j : ℕ)
-    → owns id (at ps i) ≡ true → owns id (at (changed ps i f) j) ≡ owns id (at ps j)
-owns_changed f keep id ps i j e =
-    ⊎_elim
-    (λ same. rw same (ap (owns id) (get_or-set_same ps i (option_map f (at ps i)) None (owned_there id ps i e)) ∙ through (at ps i)))
-    (λ other. ap (owns id) (get_or-set_other ps i j (option_map f (at ps i)) None other))
-    (cases_eq j i)
-  where
-    through : (x : Option Link) → owns id (option_map f x) ≡ owns id x
-    through None = refl
-    through (Some l) = keep id l
 
 -- what is returned leaves the link
 here_cleared : (id : PortId) (ps : Places) (i o : ℕ) → owns id (at ps i) ≡ true
@@ -51,12 +39,7 @@ here_cleared id ps i o = through (at ps i)
         → held_here id o (option_map cleared x) + times (by x [] (λ l. cond (attached l.sender_end) l.returned [])) o ≡ held_here id o x
     through None e = absurd (false≢true e)
     through (Some l) e =
-        let a : attached l.sender_end ≡ true = (and_parts (attached l.sender_end) _ e).0 in
-        let now : held_here id o (Some (cleared l)) ≡ times (listed (cleared l)) o = cond-true _ _ _ e in
-        let was : held_here id o (Some l) ≡ times (listed l) o = cond-true _ _ _ e in
-        let gone : times (cleared l).returned o ≡ 0 = ap (λ os. times os o) (cond-true _ _ _ a) in
-        let taken : times (cond (attached l.sender_end) l.returned []) o ≡ times l.returned o = ap (λ os. times os o) (cond-true _ _ _ a) in
-        omega (arith, now, was, gone, taken, listed_times (cleared l) o, listed_times l o)
+        grind (arith, and_parts (attached l.sender_end) _ e, listed_times (cleared l) o, listed_times l o)
 
 -- LETTING ALL GO
 
@@ -94,9 +77,9 @@ emptied_kept loans hand g c e k =
     record {
       books = all_go loans hand qs os p out;
       slots = all_slots os p;
-      owned = λ j. owns_changed cleared (λ _ _. refl) p.id ps i j e;
+      owned = kept_by (owns p.id) cleared (λ _. refl) ps i;
       passage = passage_trans
-          (passage_links p ps qs (safe_cleared ps i) (fits_unmoved p ps qs (λ j. own_changed cleared (λ _ _. refl) p.id ps i j)) (λ a ne. unmoved_changed a p.id ps i cleared (λ _. refl) ne e))
+          (passage_links p ps qs (safe_cleared ps i) (fits_unmoved p ps qs (kept_by (own_details p.id) cleared (λ _. refl) ps i)) (λ a ne. unmoved_changed a p.id ps i cleared (λ _. refl) ne e))
           (passage_all loans hand qs os p out);
     }
 
@@ -147,25 +130,12 @@ reclaimed_loans hand g k = subst (λ l. InOrder l hand (reclaimed_all g)) (sym (
 
 pub filling : (hand : List PointerOffset) (g : Side) (o : PointerOffset) (source : List ℕ) → InOrder g.port.loans hand g
     → InOrder (fill_after g.port o source).loans hand (beside g (fill_after g.port o source))
-filling hand g o source k =
-    let b = k.books in
-    record {
-      books = record { ledger = b.ledger; balance = b.balance; free = b.free; alone = b.alone; once = b.once };
-      wired = record { own = k.wired.own; apart = k.wired.apart; cover = k.wired.cover; few = k.wired.few };
-    }
+filling hand g o source k = search rules
 
 -- a loan comes into hand
 pub in_hand : (hand : List PointerOffset) (p : Pub) (ps : Places) (o : PointerOffset) → is_live p o ≡ true → Books p.loans hand p ps
     → Books (without same_chunk p.loans o) (o ∷ hand) (with_loans p (without same_chunk p.loans o)) ps
-in_hand hand p ps o live k =
-    let fewer : (x : ℕ) → times (without same_chunk p.loans o) x + one o x ≡ times p.loans x = λ x. without_times p.loans o x live in
-    record {
-      ledger = k.ledger;
-      balance = λ x. omega (arith, k.balance x, fewer x, times_cons o hand x);
-      free = k.free;
-      alone = λ x h. k.alone x (omega (arith, fewer x, h));
-      once = k.once;
-    }
+in_hand hand p ps o live k = search (rules, one, without_times, times_cons)
 
 ended : (hand : List PointerOffset) (p : Pub) (ps : Places) (o : PointerOffset) → is_live p o ≡ true → Books p.loans hand p ps
     → Books (unloaned p o).loans hand (unloaned p o) ps
@@ -174,10 +144,5 @@ ended hand p ps o live k = letting_go (without same_chunk p.loans o) hand (with_
 pub returning : (hand : List PointerOffset) (g : Side) (o : PointerOffset) → InOrder g.port.loans hand g
     → InOrder (return_after g.port o).loans hand (beside g (return_after g.port o))
 returning hand g o k =
-    let p = g.port in
-    let to : Pub → Type 0 = λ q. InOrder q.loans hand (beside g q) in
-    ⊎_elim
-    (λ yes. subst to (sym (cond-true _ (unloaned p o) p yes))
-    (record { books = ended hand p g.links o yes k.books; wired = record { own = k.wired.own; apart = k.wired.apart; cover = k.wired.cover; few = k.wired.few } }))
-    (λ no. subst to (sym (cond-false _ (unloaned p o) p no)) k)
-    (cases_Bool (is_live p o))
+    cond_both (is_live g.port o) (unloaned g.port o) g.port (λ q. InOrder q.loans hand (beside g q))
+    (λ yes. record { books = ended hand g.port g.links o yes k.books; wired = search rules }) (λ _. k)

@@ -1,110 +1,67 @@
 -- Removing links and closing keep a publisher in order.
-use Rattle.std.proofs.Common.{◌≡◌, ℕ, ◌+◌, ◌<◌, Bool, true, false, cond, ◌&&◌, eqb, List, [], ◌++◌, length, get_or, set, is_some, Some, None, Option, sym, refl, ap, ◌∙◌, subst, ⊎_elim, arith, MatchOption}
+use Rattle.std.proofs.Common.{rules, arith, true, false, cond, ◌≡◌, ℕ, ◌+◌, ◌<◌, eqb, List, ◌++◌, length, get_or, set, Some, None, Option, sym, refl, ap, ◌∙◌, subst, ⊎_elim, MatchOption}
 use Rattle.std.specs.List.Sorted.{IsPermutation}
-use Rattle.std.proofs.lemmas.List.{get_or-set_same, get_or-set_other, get_or_past, length-set}
+use Rattle.std.proofs.lemmas.Bool.{false≢true}
+use Rattle.std.proofs.lemmas.Option.{none-some}
+use Rattle.std.proofs.lemmas.List.{get_or-set_same, get_or-set_other, length-set}
 use Rattle.std.proofs.lemmas.List.Sorted.{sum_by-IsPermutation}
-use Rattle.std.proofs.lemmas.Bool.{cases_Bool, cases_eq, cases_lt, cond-true, cond-false, and_parts, false≢true}
 use Rattle.elementary.specs.declared.port_id.PortId.{PortId}
 use Rattle.elementary.specs.declared.pointer_offset.PointerOffset.{PointerOffset}
-use Rattle.elementary.specs.declared.link.Standing.{Standing}
-use Rattle.elementary.specs.declared.link.Standing.TheVariants.{NeverAttached, Attached, Gone}
 use Rattle.elementary.specs.declared.link.Event.TheVariants.{Detach}
 use Rattle.elementary.specs.declared.link.End.TheVariants.{Sender}
 use Rattle.elementary.specs.declared.error.CloseError.{CloseError}
 use Rattle.rules.specs.Pools.{by}
-use Rattle.rules.specs.Links.{Link, attached, next_standing, stepped, alive, listed, held, times}
+use Rattle.rules.specs.Links.{Link, stepped, times}
 use Rattle.rules.specs.Bank.{Places, at, kept, detached, held_at}
 use Rattle.rules.specs.Publisher.{Connection, Pub, Side, slot_at, with_slots, let_go_all, Removes, Empties, none, one, shut, Closes}
-use Rattle.rules.specs.Books.{mine, held_here, held_by, Books, owns, Wired, InOrder}
+use Rattle.rules.specs.Books.{held_here, held_by, Books, owns, Wired, InOrder}
+use Rattle.rules.proofs.Banks.{goes}
+use Rattle.rules.proofs.Lists.{within, set_cases}
 use Rattle.rules.proofs.Offsets.{times_append}
-use Rattle.rules.proofs.Keep.{moving}
-use Rattle.rules.proofs.Reclaims.{owned_there, held_set, all_id, all_slots, all_loans}
 use Rattle.rules.proofs.Safe.{safe_detached}
-use Rattle.rules.proofs.Views.{own_details, unmoved_refl, unmoved_set, none_held, foreign, not_owned_by_other}
-use Rattle.rules.proofs.Passages.{Passage, Fits, shape_refl, passage_refl, passage_trans, all_go, passage_all, passage_links}
-use Rattle.rules.proofs.Lends.{goes}
+use Rattle.rules.proofs.Keep.{moving}
+use Rattle.rules.proofs.Views.{unmoved_set, none_held, foreign, not_owned_by_other}
+use Rattle.rules.proofs.Passages.{Passage, Fits, passage_refl, passage_trans, all_go, passage_all, passage_links}
+use Rattle.rules.proofs.Reclaims.{owned_there, held_set, all_id, all_slots, all_loans}
 
 -- ONE LINK
 
-detached_end : (s : Standing) → attached (next_standing s Detach) ≡ false
-detached_end NeverAttached = refl
-detached_end Attached = refl
-detached_end Gone = refl
-
-first_false : (a b : Bool) → a ≡ false → (a && b) ≡ false
-first_false false b f = refl
-first_false true b f = absurd (false≢true (sym f))
-
-not_owned : (id : PortId) (l : Link) → attached l.sender_end ≡ false → owns id (kept l) ≡ false
-not_owned id l e =
-    ⊎_elim
-    (λ yes. ap (owns id) (cond-true _ (Some l) None yes) ∙ first_false _ _ e)
-    (λ no. ap (owns id) (cond-false _ (Some l) None no))
-    (cases_Bool (alive l))
-
--- a link whose sender end is gone holds nothing for it
-holds_nothing : (id : PortId) (o : ℕ) (l : Link) → attached l.sender_end ≡ false → held_here id o (kept l) ≡ 0
-holds_nothing id o l e =
-    ⊎_elim
-    (λ yes. ap (held_here id o) (cond-true _ (Some l) None yes) ∙ cond-false (mine id l) _ _ (first_false _ _ e))
-    (λ no. ap (held_here id o) (cond-false _ (Some l) None no))
-    (cases_Bool (alive l))
-
 here_removed : (id : PortId) (ps : Places) (i o : ℕ) → owns id (at ps i) ≡ true
     → held_here id o (by (at ps i) None (λ l. kept (stepped Sender Detach l))) + times (held_at ps i) o ≡ held_here id o (at ps i)
-here_removed id ps i o = through (at ps i)
-  where
-    through : (x : Option Link) → owns id x ≡ true → held_here id o (by x None (λ l. kept (stepped Sender Detach l))) + times (by x [] held) o ≡ held_here id o x
-    through None e = absurd (false≢true e)
-    through (Some l) e =
-        let a : attached l.sender_end ≡ true = (and_parts (attached l.sender_end) _ e).0 in
-        let was : held_here id o (Some l) ≡ times (listed l) o = cond-true _ _ _ e in
-        let out : times (held l) o ≡ times (listed l) o = ap (λ os. times os o) (cond-true _ _ _ a) in
-        omega (arith, was, out, holds_nothing id o (stepped Sender Detach l) (detached_end l.sender_end))
+here_removed id ps i o h = search rules
 
 -- ONE SLOT
 
 pub slot_there : (xs : List (Option Connection)) (i : ℕ) (c : Connection) → get_or xs i None ≡ Some c → i < length xs
-slot_there xs i c e = ⊎_elim (λ lt. lt) (λ le. absurd (false≢true (ap is_some (sym (get_or_past xs i None le) ∙ e)))) (cases_lt i (length xs))
+slot_there xs i c e = within xs i None (λ none. none-some c (sym none ∙ e))
 
 -- what stands in a slot when another was emptied
 slot_back : (xs : List (Option Connection)) (i : ℕ) (c : Connection) → get_or xs i None ≡ Some c
     → (j : ℕ) (d : Connection) → get_or (set xs i None) j None ≡ Some d → (j ≡ i → ⊥) × (get_or xs j None ≡ Some d)
 slot_back xs i c there j d e =
-    let apart : j ≡ i → ⊥ = λ same. false≢true (ap is_some (sym (get_or-set_same xs i None None (slot_there xs i c there)) ∙ (ap (λ k. get_or (set xs i None) k None) (sym same) ∙ e))) in
-    (apart, sym (get_or-set_other xs i j None None apart) ∙ e)
+    ⊎_elim (λ new. absurd (none-some d (sym new.1 ∙ e))) (λ old. (old.0 (slot_there xs i c there), sym old.1 ∙ e)) (set_cases xs i None None j)
 
 -- REMOVING
 
 -- the slots and the id that a publisher has decide how it is wired
 pub rewired : (p q : Pub) (ps : Places) → q.id ≡ p.id → q.slots ≡ p.slots → Wired p ps → Wired q ps
-rewired p q ps id slots w =
-    let back : (i : ℕ) (c : Connection) → slot_at q i ≡ Some c → slot_at p i ≡ Some c = λ i c e. sym (ap (λ xs. get_or xs i None) slots) ∙ e in
-    record {
-      own = λ i c e. ap (λ x. owns x (at ps c.place)) id ∙ w.own i c (back i c e);
-      apart = λ i j c d a b. w.apart i j c d (back i c a) (back j d b);
-      cover = λ j e. let f = w.cover j (sym (ap (λ x. owns x (at ps j)) id) ∙ e) in (f.0, (f.1.0, ap (λ xs. get_or xs f.0 None) slots ∙ f.1.1, f.1.2));
-      few = omega (arith, ap length slots, w.few);
-    }
+rewired p q ps id slots w = search rules
 
 abbrev pub place_of : Option Connection → ℕ
 place_of x = by x 0 (λ c. c.place)
 
 -- a place whose sender end was detached is no publisher's any more
 no_longer_owned : (id : PortId) (x : Option Link) → owns id (by x None (λ l. kept (stepped Sender Detach l))) ≡ false
-no_longer_owned id None = refl
-no_longer_owned id (Some l) = not_owned id (stepped Sender Detach l) (detached_end l.sender_end)
+no_longer_owned id x = search rules
 
 released_place : (id : PortId) (ps : Places) (i : ℕ) → owns id (at ps i) ≡ true → owns id (at (detached Sender ps i) i) ≡ false
-released_place id ps i e =
-    ap (owns id) (get_or-set_same ps i (by (at ps i) None (λ l. kept (stepped Sender Detach l))) None (owned_there id ps i e)) ∙ no_longer_owned id (at ps i)
+released_place id ps i e = grind (arith, get_or-set_same, owned_there)
 
 unwired : (p : Pub) (ps : Places) (i : ℕ) (c : Connection) → slot_at p i ≡ Some c → Wired p ps → Wired (with_slots p (set p.slots i None)) (detached Sender ps c.place)
 unwired p ps i c there w =
     let back = slot_back p.slots i c there in
     record {
-      own = λ j d e. let b = back j d e in
-          ap (owns p.id) (get_or-set_other ps c.place d.place _ None (λ same. b.0 (w.apart j i d c b.1 there same))) ∙ w.own j d b.1;
+      own = λ j d e. grind (arith, back j d e, get_or-set_other, w.apart j i d c, w.own j d);
       apart = λ j k d f a b. w.apart j k d f (back j d a).1 (back k f b).1;
       cover = λ j e. let other : j ≡ c.place → ⊥ = λ same. false≢true (sym (released_place p.id ps c.place (w.own i c there)) ∙ (ap (λ k. owns p.id (at (detached Sender ps c.place) k)) (sym same) ∙ e)) in
           let f = w.cover j (ap (owns p.id) (sym (get_or-set_other ps c.place j _ None other)) ∙ e) in
@@ -115,33 +72,14 @@ unwired p ps i c there w =
 
 -- the slot is emptied, and then the sender end detached
 slot_emptied : (p : Pub) (ps : Places) (i : ℕ) → Passage (record { port = p; links = ps }) (record { port = with_slots p (set p.slots i None); links = ps })
-slot_emptied p ps i = record {
-  course = record {
-    id = refl;
-    settings = refl;
-    bytes = refl;
-    slots = length-set p.slots i None;
-    shape = shape_refl p.chunks.mem;
-    fewer = λ o h. h;
-    bank = λ s. s;
-    fits = λ f. f;
-    others = λ a ne. unmoved_refl a ps;
-  };
-  loans = refl;
-  history = refl;
-  closed = refl;
-}
+slot_emptied p ps i = search rules
 
 detached_passes : (p : Pub) (ps : Places) (i : ℕ) → owns p.id (at ps i) ≡ true → Passage (record { port = p; links = ps }) (record { port = p; links = detached Sender ps i })
 detached_passes p ps i own = passage_links p ps (detached Sender ps i) (safe_detached Sender ps i) fits
     (λ a ne. unmoved_set a ps i _ (foreign a (at ps i) _ (not_owned_by_other a p.id (at ps i) ne own) (no_longer_owned a (at ps i))))
   where
     fits : Fits p ps → Fits p (detached Sender ps i)
-    fits f j d e = ⊎_elim
-        (λ same. absurd (false≢true (ap is_some (sym (none_held p.id (at (detached Sender ps i) i) (released_place p.id ps i own)).0
-        ∙ (ap (λ k. own_details p.id (at (detached Sender ps i) k)) (sym same) ∙ e)))))
-        (λ other. f j d (ap (own_details p.id) (sym (get_or-set_other ps i j _ None other)) ∙ e))
-        (cases_eq j i)
+    fits f j d e = grind (arith, none_held p.id (at (detached Sender ps i) i) (released_place p.id ps i own), get_or-set_other, f j d)
 
 pub record Removed (loans hand : List PointerOffset) (g h : Side) : Type 0 where
   pub order : InOrder loans hand h
@@ -165,7 +103,7 @@ remove loans hand g i c os there shuffled k =
       times_append os hand o,
       sum_by-IsPermutation (λ (x : PointerOffset). cond (eqb x.value o) 1 0) (held_at ps c.place) os shuffled,
     ) in
-    let start : Books loans hand q ps = record { ledger = b.ledger; balance = b.balance; free = b.free; alone = b.alone; once = b.once } in
+    let start : Books loans hand q ps = search rules in
     let out : Books loans (os ++ hand) q qs = moving loans hand (os ++ hand) q ps qs same start in
     record {
       order = record {
@@ -202,13 +140,7 @@ emptied_slots loans hand (one r rest) k =
 
 -- the history comes into hand
 pub history_in_hand : (loans hand : List PointerOffset) (p : Pub) (ps : Places) → Books loans hand p ps → Books loans (p.history ++ hand) (shut p) ps
-history_in_hand loans hand p ps k = record {
-  ledger = k.ledger;
-  balance = λ o. omega (arith, k.balance o, times_append p.history hand o);
-  free = k.free;
-  alone = k.alone;
-  once = λ o. omega arith;
-}
+history_in_hand loans hand p ps k = search (rules, times_append)
 
 pub closing : (hand : List PointerOffset) (g : Side) (r : Option CloseError) (h : Side) → Closes g r h → InOrder g.port.loans hand g → InOrder h.port.loans hand h
 closing hand g r h c k =

@@ -1,37 +1,26 @@
 -- Where no sender was ever attached, nothing was ever sent: every call keeps it so.
-use Rattle.std.proofs.Common.{◌≡◌, ℕ, ◌+◌, ◌≤◌, Bool, true, false, cond, ◌&&◌, ltb, List, [], ◌∷◌, ◌++◌, length, set, is_some, is_ok, Some, None, Err, fold, Option, sym, refl, ap, ◌∙◌, subst, ⊎_elim, arith}
-use Rattle.std.specs.Option.{option_to_list}
-use Rattle.std.proofs.lemmas.Bool.{cond-true, cond-false, cond_both, false≢true}
-use Rattle.container.specs.Queue.{oldest, later, has}
-use Rattle.elementary.specs.Ids.{same_chunk}
+use Rattle.std.proofs.Common.{rules, arith, true, false, Bool, ◌≡◌, ℕ, ◌+◌, ◌≤◌, [], length, set, Some, None, Option, sym, refl, ◌∙◌, subst}
+use Rattle.std.proofs.lemmas.Option.{same_Some}
+use Rattle.std.proofs.lemmas.Bool.{cond-false, cond_both}
 use Rattle.elementary.specs.declared.pointer_offset.PointerOffset.{PointerOffset}
 use Rattle.elementary.specs.declared.link.LinkDetails.{LinkDetails}
 use Rattle.elementary.specs.declared.link.End.{End}
-use Rattle.elementary.specs.declared.link.End.TheVariants.{Sender, Receiver}
 use Rattle.elementary.specs.declared.link.Event.TheVariants.{Attach, Detach}
 use Rattle.elementary.specs.declared.link.Standing.{Standing}
-use Rattle.elementary.specs.declared.link.Standing.TheVariants.{NeverAttached, Attached, Gone}
 use Rattle.elementary.specs.declared.link.Mark.{Mark}
-use Rattle.elementary.specs.declared.error.ZeroCopySendError.TheVariants as sending
-use Rattle.elementary.specs.declared.error.ZeroCopyReleaseError.TheVariants as releasing
 use Rattle.rules.specs.Pools.{by}
-use Rattle.rules.specs.Links.{Link, Proper, times, attached, never, next_standing, stepped, fresh, can_borrow, most_returned, send_answer, send_after, reclaim_after, receive_after, release_fault, release_after}
+use Rattle.rules.specs.Links.{Link, Proper, times, attached, never, stepped, fresh, most_returned, send_after, reclaim_after, receive_after, release_after}
 use Rattle.rules.specs.Bank.{Places, at, changed, sent, reclaimed, create_fault, MayTake, created, detached, Move, receive_at, release_at, moved, Turned, with_mark, SetsMark, SoundBank, Unsent, SafeBank, StaysSound, StaysSafe}
 use Rattle.rules.specs.Publisher.{cleared}
-use Rattle.rules.proofs.Banks.{proper_lists, before, changed_at, set_place, left_of, marking_by, sound_changed, sound_sent, sound_reclaimed, sound_moved, sound_created, sound_detached, stays_sound}
+use Rattle.rules.proofs.Banks.{turned_by, proper_marked, proper_lists, before, changed_at, set_place, left_of, marking_by, sound_changed, sound_sent, sound_reclaimed, sound_moved, sound_created, sound_detached, stays_sound}
 
 -- ONE LINK
 
 pub never_attached : (s : Standing) → never s ≡ true → attached s ≡ false
-never_attached NeverAttached e = refl
-never_attached Attached e = absurd (false≢true e)
-never_attached Gone e = absurd (false≢true e)
+never_attached s h = search rules
 
 unsent_send : (o : PointerOffset) (l : Link) → Unsent l → Unsent (send_after l o)
-unsent_send o l u n =
-    let k = u n in
-    let no : is_ok (send_answer l o) ≡ false = ap is_ok (cond-false (attached l.sender_end) _ (Err sending.NotConnected) (never_attached l.sender_end n)) in
-    (cond-false _ _ _ no ∙ k.0, k.1, k.2)
+unsent_send o l h = search rules
 
 unsent_reclaim : (l : Link) → Unsent l → Unsent (reclaim_after l)
 unsent_reclaim l u n = let k = u n in (k.0, k.1, cond-false _ _ _ (never_attached l.sender_end n) ∙ k.2)
@@ -40,61 +29,28 @@ unsent_cleared : (l : Link) → Unsent l → Unsent (cleared l)
 unsent_cleared l u n = let k = u n in (k.0, k.1, cond-false _ _ _ (never_attached l.sender_end n) ∙ k.2)
 
 unsent_receive : (l : Link) → Unsent l → Unsent (receive_after l)
-unsent_receive l u n = let k = u n in (waits (attached l.receiver_end && can_borrow l) k.0, lends (attached l.receiver_end && can_borrow l) k.0 k.1, k.2)
-  where
-    waits : (b : Bool) → l.waiting ≡ [] → cond b (later l.waiting) l.waiting ≡ []
-    waits true e = ap later e
-    waits false e = e
-
-    lends : (b : Bool) → l.waiting ≡ [] → l.borrowed ≡ [] → cond b (l.borrowed ++ option_to_list (oldest l.waiting)) l.borrowed ≡ []
-    lends true e f = ap (λ x. x ++ option_to_list (oldest l.waiting)) f ∙ ap (λ x. option_to_list (oldest x)) e
-    lends false e f = f
+unsent_receive l h = search rules
 
 unsent_release : (o : PointerOffset) (l : Link) → Unsent l → Unsent (release_after l o)
-unsent_release o l u n =
-    let k = u n in
-    let none : (attached l.receiver_end && has same_chunk l.borrowed o) ≡ false = ap (λ x. attached l.receiver_end && has same_chunk x o) k.1 ∙ never_both (attached l.receiver_end) in
-    let fault : is_some (release_fault l o) ≡ true = ap is_some (cond-false _ (cond (ltb (length l.returned) (most_returned l)) None (Some releasing.RetrieveBufferFull)) (Some releasing.NotBorrowed) none) in
-    (k.0, cond-true _ _ _ fault ∙ k.1, cond-true _ _ _ fault ∙ k.2)
-  where
-    never_both : (b : Bool) → (b && false) ≡ false
-    never_both true = refl
-    never_both false = refl
+unsent_release o l h = search rules
 
 -- an end that comes or goes changes no list, and no sender end becomes one that never was
 unsent_detached : (end : End) (l : Link) → Unsent l → Unsent (stepped end Detach l)
-unsent_detached Receiver l u n = u n
-unsent_detached Sender l u n = u (back l.sender_end n)
-  where
-    back : (s : Standing) → never (next_standing s Detach) ≡ true → never s ≡ true
-    back NeverAttached e = refl
-    back Attached e = absurd (false≢true e)
-    back Gone e = absurd (false≢true e)
+unsent_detached end l h = search rules
 
 unsent_attached : (end : End) (l : Link) → Unsent l → Unsent (stepped end Attach l)
-unsent_attached Receiver l u n = u n
-unsent_attached Sender l u n = absurd (ever l.sender_end n)
-  where
-    ever : (s : Standing) → never (next_standing s Attach) ≡ true → ⊥
-    ever NeverAttached e = false≢true e
-    ever Attached e = false≢true e
-    ever Gone e = false≢true e
+unsent_attached end l h = search rules
 
 -- THE BANK
 
 pub safe_changed : (ps : Places) (i : ℕ) (f : Link → Link) → ((l : Link) → Unsent l → Unsent (f l)) → (SoundBank ps → SoundBank (changed ps i f)) → SafeBank ps → SafeBank (changed ps i f)
 safe_changed ps i f keep sound s = record {
   sound = sound s.sound;
-  unsent = λ j l e. let c = changed_at ps i f j l e in
-      let u = s.unsent j c.0 c.1 in
-      ⊎_elim (λ y. subst Unsent (sym y.0) (keep c.0 u)) (λ y. subst Unsent (sym y) u) c.2;
+  unsent = λ j l e. grind (arith, changed_at ps i f j l e, s.unsent j, keep);
 }
 
 safe_set : (ps : Places) (i : ℕ) (x : Option Link) → ((l : Link) → x ≡ Some l → Unsent l) → (SoundBank ps → SoundBank (set ps i x)) → SafeBank ps → SafeBank (set ps i x)
-safe_set ps i x keep sound s = record {
-  sound = sound s.sound;
-  unsent = λ j l e. ⊎_elim (λ y. keep l y.1) (λ y. s.unsent j l y) (set_place ps i x j l e);
-}
+safe_set ps i x keep sound s = search (rules, set_place)
 
 pub safe_sent : (ps : Places) (i : ℕ) (o : PointerOffset) → SafeBank ps → SafeBank (sent ps i o)
 safe_sent ps i o = safe_changed ps i (λ l. send_after l o) (unsent_send o) (sound_sent ps i o)
@@ -115,23 +71,16 @@ pub safe_moved : (ps : Places) (m : Move) → SafeBank ps → SafeBank (moved ps
 safe_moved ps (receive_at i) = safe_changed ps i receive_after unsent_receive (sound_moved ps (receive_at i))
 safe_moved ps (release_at i o) = safe_changed ps i (λ l. release_after l o) (unsent_release o) (sound_moved ps (release_at i o))
 
-safe_moves : (ms : List Move) (ps : Places) → SafeBank ps → SafeBank (fold moved ps ms)
-safe_moves [] ps s = s
-safe_moves (m ∷ ms) ps s = safe_moves ms (moved ps m) (safe_moved ps m s)
-
 pub safe_turned : (ps qs : Places) → Turned ps qs → SafeBank ps → SafeBank qs
-safe_turned ps qs t s = subst SafeBank (sym t.1) (safe_moves t.0 ps s)
+safe_turned = turned_by SafeBank safe_moved
 
 pub safe_detached : (end : End) (ps : Places) (i : ℕ) → SafeBank ps → SafeBank (detached end ps i)
 safe_detached end ps i s =
     safe_set ps i _ (λ l e. let c = left_of end (at ps i) l e in subst Unsent (sym c.2) (unsent_detached end c.0 (s.unsent i c.0 c.1))) (sound_detached end ps i) s
 
 pub safe_created : (end : End) (ps : Places) (d : LinkDetails) (p : ℕ) → create_fault end ps d ≡ None → MayTake ps d p → SafeBank ps → SafeBank (created end ps d p)
-safe_created end ps d p e m s = safe_set ps p _ (λ l el. subst Unsent (got l el) (joined (at ps p) refl)) (sound_created end ps d p e m) s
+safe_created end ps d p e m s = safe_set ps p _ (λ l el. subst Unsent (same_Some _ _ el) (joined (at ps p) refl)) (sound_created end ps d p e m) s
   where
-    got : (l : Link) → ◌≡◌ {A = Option Link} (Some (stepped end Attach (by (at ps p) (fresh d) (λ k. k)))) (Some l) → stepped end Attach (by (at ps p) (fresh d) (λ k. k)) ≡ l
-    got l el = cc
-
     joined : (x : Option Link) → at ps p ≡ x → Unsent (stepped end Attach (by x (fresh d) (λ k. k)))
     joined None ex = unsent_attached end (fresh d) (λ _. (refl, refl, refl))
     joined (Some k) ex = unsent_attached end k (s.unsent p k ex)
@@ -139,7 +88,7 @@ safe_created end ps d p e m s = safe_set ps p _ (λ l el. subst Unsent (got l el
 pub safe_marked : (rigged : Bool) (ps : Places) (i : ℕ) (m : Mark) (qs : Places) → SetsMark rigged ps i m qs → SafeBank ps → SafeBank qs
 safe_marked rigged ps i m qs w s =
     marking_by SafeBank (λ rs j x. safe_changed rs j (λ l. with_mark l x) (λ l u. u)
-    (λ k. sound_changed rs j (λ l. with_mark l x) (λ l p. record { buffer = p.buffer; borrow = p.borrow; waiting = p.waiting; borrowed = p.borrowed; returned = p.returned; once = p.once; live = p.live }) (λ l. refl) k))
+    (λ k. sound_changed rs j (λ l. with_mark l x) (proper_marked x) (λ l. refl) k))
     rigged ps i m qs w s
 
 pub bank_stays_sound : StaysSound

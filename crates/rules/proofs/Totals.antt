@@ -1,14 +1,13 @@
 -- Counting buckets.
-use Rattle.std.proofs.Common.{◌≡◌, ℕ, suc, ◌+◌, ◌<◌, ◌≤◌, Bool, true, false, cond, ◌&&◌, ◌||◌, eqb, ltb, leb, List, [], ◌∷◌, length, get_or, set, Some, None, sum, sym, refl, ap, ◌∙◌, ⊎_elim, arith}
-use Rattle.std.proofs.lemmas.List.{get_or_past, length-set}
+use Rattle.std.proofs.Common.{rules, arith, true, false, Bool, cond, ◌≡◌, ℕ, suc, ◌+◌, ◌<◌, ◌≤◌, ◌&&◌, ◌||◌, eqb, ltb, leb, List, [], ◌∷◌, length, get_or, set, Some, None, sum, sym, refl, ap, ◌∙◌, ⊎_elim}
 use Rattle.std.proofs.lemmas.List.Sums.{sum_by-cons, sum_by-set}
-use Rattle.std.proofs.lemmas.Bool.{ltb-true, cases_lt, cases_Bool, or_left, or_right, and_from, ne_eqb, true≢false, false≢true, and_parts}
-use Rattle.elementary.specs.Ids.{segment}
+use Rattle.std.proofs.lemmas.Bool.{ltb-true, cases_Bool, true≢false, false≢true}
 use Rattle.elementary.specs.declared.error.AllocationError.TheVariants.{SizeTooLarge, AlignmentFailure, OutOfMemory}
-use Rattle.rules.specs.Memory.{Segment, segment_at, no_segment, home, bucket, is_chunk, taken_at, offset_of, remarked, marked, some_false, some_free, aligned, else_fault}
+use Rattle.rules.specs.Memory.{Segment, segment_at, no_segment, is_chunk, taken_at, offset_of, marked, some_false, some_free, aligned, else_fault}
 use Rattle.rules.specs.Laws.{trues, as_large, as_large_taken, TakenAtMostCounted, OneIsFree, occurrences, TakenAtMostHeld}
-use Rattle.rules.proofs.Chunks.{chunk_bucket, chunk_there, named}
-use Rattle.rules.proofs.Marks.{mark_size, mark_same, mark_other}
+use Rattle.rules.proofs.Lists.{within}
+use Rattle.rules.proofs.Chunks.{chunk_there, named}
+use Rattle.rules.proofs.Marks.{mark_same, mark_other}
 
 pub trues_cons : (t : Bool) (ts : List Bool) → trues (t ∷ ts) ≡ cond t 1 0 + trues ts
 trues_cons t ts = sum_by-cons (λ b. cond b 1 0) t ts
@@ -26,8 +25,7 @@ row_counted (false ∷ ts) (n ∷ ns) h =
 
 -- as many as are large, of those that are taken
 chosen : (b : Bool) (n : ℕ) → cond b n 0 ≤ n
-chosen true n = omega arith
-chosen false n = omega arith
+chosen b n = search rules
 
 pub taken_at_most_counted : TakenAtMostCounted
 taken_at_most_counted [] cs asked h = omega arith
@@ -59,9 +57,7 @@ free_in (true ∷ ts) h = free_in ts (omega (arith, trues_cons true ts))
 -- of one segment and the rest, one has fewer taken than there are
 free_of : (large : Bool) (ts : List Bool) (taken all : ℕ) (rest : Bool) → cond large (trues ts) 0 + taken < cond large (length ts) 0 + all
     → (taken < all → rest ≡ true) → ((large && some_false ts) || rest) ≡ true
-free_of false ts taken all rest h r = r (omega arith)
-free_of true ts taken all rest h r =
-    ⊎_elim (λ here. or_left _ _ (free_in ts here)) (λ full. or_right _ _ (r (omega arith))) (cases_lt (trues ts) (length ts))
+free_of large ts taken all rest h k = search (rules, free_in)
 
 pub free_among : (gs : List Segment) (asked : ℕ) → as_large_taken gs asked < as_large gs asked → some_free gs asked ≡ true
 free_among [] asked h = absurd (omega arith)
@@ -72,10 +68,7 @@ free_among (g ∷ gs) asked h =
 
 not_short : (size align free more : Bool) → free ≡ true
     → else_fault (cond size (Some SizeTooLarge) (cond align None (Some AlignmentFailure))) (cond (free || more) None (Some OutOfMemory)) ≡ Some OutOfMemory → ⊥
-not_short true align free more f e = let z : ◌≡◌ {A = ℕ} 0 1 = cc in omega arith
-not_short false false free more f e = let z : ◌≡◌ {A = ℕ} 0 1 = cc in omega arith
-not_short false true true more f e = let z : ◌≡◌ {A = ℕ} 0 1 = cc in omega arith
-not_short false true false more f e = false≢true f
+not_short size align free more h k = search rules
 
 pub one_is_free : OneIsFree
 one_is_free m asked h =
@@ -89,63 +82,44 @@ abbrev Nameable : List Segment → Type 0
 Nameable gs = (length gs ≤ 256) × ((s : ℕ) → s < length gs → 0 < (segment_at gs s).size)
 
 nameable_mark : (gs : List Segment) (o : ℕ) (t : Bool) → Nameable gs → Nameable (marked gs o t)
-nameable_mark gs o t (few, pos) =
-    let n = length-set gs (segment o) (remarked (home gs o) (bucket gs o) t) in
-    (omega arith, λ s lt. omega (arith, mark_size gs o t s, pos s (omega arith)))
+nameable_mark gs o t h = search rules
 
 -- a bucket that is marked is there
 pub marked_within : (ts : List Bool) (b : ℕ) → get_or ts b false ≡ true → b < length ts
-marked_within ts b e = ⊎_elim (λ h. h) (λ h. absurd (false≢true (sym (get_or_past ts b false h) ∙ e))) (cases_lt b (length ts))
+marked_within ts b e = within ts b false (λ none. false≢true (sym none ∙ e))
 
 pub marked_there : (gs : List Segment) (s b : ℕ) → get_or (segment_at gs s).taken b false ≡ true → s < length gs
-marked_there gs s b e =
-    ⊎_elim (λ h. h) (λ h. absurd (false≢true (sym (ap (λ (g : Segment). get_or g.taken b false) (get_or_past gs s no_segment h)) ∙ e))) (cases_lt s (length gs))
+marked_there gs s b e = within gs s no_segment (λ none. false≢true (sym (ap (λ (g : Segment). get_or g.taken b false) none) ∙ e))
 
 -- and its offset says so
 taken_named : (gs : List Segment) (s b : ℕ) → Nameable gs → get_or (segment_at gs s).taken b false ≡ true → taken_at gs (offset_of gs s b) ≡ true
-taken_named gs s b (few, pos) e =
-    let there = marked_there gs s b e in
-    let short : s < 256 = omega arith in
-    let n = named gs s b short (pos s there) (marked_within (segment_at gs s).taken b e) in
-    and_from _ _ n.2
-    (ap (λ k. get_or (segment_at gs k).taken (bucket gs (offset_of gs s b)) false) n.0 ∙ (ap (λ k. get_or (segment_at gs s).taken k false) n.1 ∙ e))
+taken_named gs s b h k = grind (arith, marked_there, named, marked_within)
 
 -- to free a bucket takes at most one from the number of taken ones
 fewer_marks : (ts : List Bool) (b : ℕ) → b < length ts → trues ts ≤ trues (set ts b false) + 1
 fewer_marks ts b lt = omega (arith, sum_by-set (λ t. cond t 1 0) ts b false false lt, chosen (get_or ts b false) 1)
 
-fewer_large : (large : Bool) (m n : ℕ) → m ≤ n + 1 → cond large m 0 ≤ cond large n 0 + 1
-fewer_large true m n h = h
-fewer_large false m n h = omega arith
-
 fewer : (gs : List Segment) (o asked : ℕ) → is_chunk gs o ≡ true → as_large_taken gs asked ≤ as_large_taken (marked gs o false) asked + 1
-fewer gs o asked c =
-    let f : Segment → ℕ = λ z. cond (leb asked z.size) (trues z.taken) 0 in
-    let s = sum_by-set f gs (segment o) (remarked (home gs o) (bucket gs o) false) no_segment (chunk_there gs o c) in
-    let l = fewer_large (leb asked (home gs o).size) _ _ (fewer_marks (home gs o).taken (bucket gs o) (chunk_bucket gs o c).1) in
-    omega (arith, s, l)
+fewer gs o asked c = grind (arith, sum_by-set, chunk_there, fewer_marks)
 
 -- a holder other than the first stands in the rest
 later : (x o : ℕ) (xs : List ℕ) → (x ≡ o → ⊥) → 0 < occurrences (x ∷ xs) o → 0 < occurrences xs o
-later x o xs ne h =
-    let z : ◌≡◌ {A = ℕ} (cond (eqb x o) 1 0) (cond false 1 0) = ap (λ b. cond b 1 0) (ne_eqb x o ne) in
-    omega (arith, sum_by-cons (λ y. cond (eqb y o) 1 0) x xs, z)
+later x o xs ne h = search rules
 
 held_at_most : (holders : List ℕ) (gs : List Segment) (asked : ℕ) → Nameable gs
     → ((o : ℕ) → taken_at gs o ≡ true → 0 < occurrences holders o) → as_large_taken gs asked ≤ length holders
 held_at_most [] gs asked n h =
     taken_at_most_counted gs [] asked
-    (λ s b. ⊎_elim (λ t. absurd (omega (arith, h (offset_of gs s b) (taken_named gs s b n t)))) (λ f. f) (cases_Bool (get_or (segment_at gs s).taken b false)))
+    (λ s b. grind (arith, h (offset_of gs s b), taken_named gs s b n))
 held_at_most (x ∷ xs) gs asked n h =
     ⊎_elim
     (λ c.
     let rest = held_at_most xs (marked gs x false) asked (nameable_mark gs x false n)
-    (λ o t. let ne : x ≡ o → ⊥ = λ e. false≢true (sym (mark_same gs x false c) ∙ (ap (taken_at (marked gs x false)) e ∙ t)) in
-    later x o xs ne (h o (sym (mark_other gs x false o c ne) ∙ t))) in
+    (λ o t. grind (arith, mark_same gs x false c, mark_other gs x false o c, later x o xs, h o, t)) in
     omega (arith, rest, fewer gs x asked c))
     (λ c.
     let rest = held_at_most xs gs asked n
-    (λ o t. later x o xs (λ e. false≢true (sym c ∙ (ap (is_chunk gs) e ∙ (and_parts _ _ t).0))) (h o t)) in
+    (λ o t. grind (arith, later x o xs, h o, t)) in
     omega (arith, rest))
     (cases_Bool (is_chunk gs x))
 

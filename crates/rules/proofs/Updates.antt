@@ -1,25 +1,19 @@
 -- A list of subscribers keeps a publisher in order.
-use Rattle.std.proofs.Common.{◌≡◌, ℕ, ◌+◌, ◌-◌, ◌^◌, ◌<◌, ◌≤◌, Bool, true, false, cond, not, ◌||◌, ltb, List, [], ◌∷◌, map, length, get_or, set, Some, None, Option, sym, refl, ap, ◌∙◌, subst, arith, MatchOption}
+use Rattle.std.proofs.Common.{rules, arith, ◌≡◌, ℕ, ◌+◌, ◌<◌, ◌≤◌, Bool, true, false, List, [], ◌∷◌, length, Some, None, Option, sym, refl, ap, ◌∙◌, subst}
 use Rattle.std.specs.Option.{option_map}
-use Rattle.std.specs.List.Sorted.{IsPermutation}
 use Rattle.std.proofs.lemmas.List.{get_or-set_same, length-set, length-map}
-use Rattle.std.proofs.lemmas.Bool.{or_parts, ltb-true, false≢true}
 use Rattle.elementary.specs.declared.pointer_offset.PointerOffset.{PointerOffset}
 use Rattle.elementary.specs.declared.port_list.SubscriberDetails.{SubscriberDetails}
-use Rattle.elementary.specs.declared.link.End.TheVariants.{Sender}
 use Rattle.elementary.specs.declared.error.ZeroCopyCreationError.{ZeroCopyCreationError}
 use Rattle.elementary.specs.declared.error.SendError.{SendError}
 use Rattle.elementary.specs.declared.error.SendError.TheVariants as send
-use Rattle.elementary.specs.declared.settings.PublisherSettings.{PublisherSettings}
-use Rattle.rules.specs.Counts.{count_at}
 use Rattle.rules.specs.Links.{times}
-use Rattle.rules.specs.Bank.{Goes, Places, at, detached, held_at, SafeBank}
-use Rattle.rules.specs.Publisher.{Connection, Pub, Side, slot_at, with_slots, let_go_all, Removes, tagged, tag_slot, has_peer, Enters, Entries, is_stale, Sweeps, swept, visited, begun, is_seen, names_place, malformed, Cycles, Updates}
+use Rattle.rules.specs.Bank.{Goes, Places, SafeBank}
+use Rattle.rules.specs.Publisher.{Pub, Side, slot_at, Removes, tagged, tag_slot, has_peer, Enters, Entries, is_stale, Sweeps, swept, visited, begun, is_seen, malformed, Cycles, Updates}
 use Rattle.rules.specs.Books.{InOrder, beside}
-use Rattle.rules.proofs.Views.{own_details, unmoved_refl}
-use Rattle.rules.proofs.Passages.{Passage, SameShape, shape_refl, passage_refl, passage_trans}
+use Rattle.rules.proofs.Banks.{goes}
+use Rattle.rules.proofs.Passages.{Passage, passage_refl, passage_trans}
 use Rattle.rules.proofs.Reclaims.{all_slots}
-use Rattle.rules.proofs.Lends.{goes}
 use Rattle.rules.proofs.Removes.{slot_there, removing, removing_passes}
 use Rattle.rules.proofs.Cycles.{tagging, beginning, sweeping}
 use Rattle.rules.proofs.Connects.{Joined, connecting}
@@ -29,51 +23,17 @@ use Rattle.rules.proofs.Connects.{Joined, connecting}
 -- a publisher with other slots, cycle and list seen
 reslotted : (p q : Pub) (ps : Places) → q.id ≡ p.id → q.settings ≡ p.settings → q.bytes ≡ p.bytes → q.loans ≡ p.loans → q.history ≡ p.history → q.closed ≡ p.closed
     → length q.slots ≡ length p.slots → q.chunks ≡ p.chunks → Passage (record { port = p; links = ps }) (record { port = q; links = ps })
-reslotted p q ps id settings bytes loans history closed slots chunks = record {
-  course = record {
-    id = id;
-    settings = settings;
-    bytes = bytes;
-    slots = slots;
-    shape = subst (λ c. SameShape p.chunks.mem c.mem) (sym chunks) (shape_refl p.chunks.mem);
-    fewer = λ o h. subst (λ c. 0 < count_at c.mem.segments c.counts o) chunks h;
-    bank = λ s. s;
-    fits = λ f i d e. let r = f i d (ap (λ x. own_details x (at ps i)) (sym id) ∙ e) in
-        subst (λ (s : PublisherSettings). (d.buffer_size ≤ s.subscriber_max_buffer_size) × (d.max_borrowed_samples ≡ s.subscriber_max_borrowed_samples)) (sym settings) r;
-    others = λ a ne. unmoved_refl a ps;
-  };
-  loans = loans;
-  history = history;
-  closed = closed;
-}
+reslotted p q ps id settings bytes loans history closed slots chunks = search rules
 
 tag_passes : (g : Side) (i : ℕ) → Passage g (beside g (tag_slot g.port i))
 tag_passes g i = reslotted g.port (tag_slot g.port i) g.links refl refl refl refl refl refl (length-set g.port.slots i (option_map (tagged g.port.cycle) (slot_at g.port i))) refl
 
 begun_passes : (g : Side) (n : ℕ) → Passage g (beside g (begun g.port n))
-begun_passes g n = go (ltb g.port.cycle (2 ^ 64 - 1))
-  where
-    p : Pub
-    p = g.port
-
-    go : (b : Bool) → Passage g (beside g (cond b
-        (record { id = p.id; settings = p.settings; chunks = p.chunks; bytes = p.bytes; loans = p.loans; history = p.history; slots = p.slots; cycle = p.cycle + 1; seen = Some n; closed = p.closed })
-        (record { id = p.id; settings = p.settings; chunks = p.chunks; bytes = p.bytes; loans = p.loans; history = p.history; slots = map (option_map (tagged 0)) p.slots; cycle = 1; seen = Some n; closed = p.closed })))
-    go true = reslotted p _ g.links refl refl refl refl refl refl refl refl
-    go false = reslotted p _ g.links refl refl refl refl refl refl (length-map p.slots (option_map (tagged 0))) refl
+begun_passes g n = grind (arith, length-map)
 
 -- the slot of a removed link is empty
 vacated : (g : Side) (i : ℕ) (h : Side) → Removes g i h → slot_at h.port i ≡ None
-vacated g i h r = through (slot_at g.port i) refl r
-  where
-    through : (x : Option Connection) → slot_at g.port i ≡ x
-        → MatchOption x (h ≡ g) (λ c. (os : List PointerOffset) × IsPermutation (held_at g.links c.place) os
-        × (h ≡ record { port = let_go_all (with_slots g.port (set g.port.slots i None)) os; links = detached Sender g.links c.place }))
-        → slot_at h.port i ≡ None
-    through None e same = ap (λ (s : Side). slot_at s.port i) same ∙ e
-    through (Some c) e (os, shuffled, same) =
-        ap (λ (s : Side). slot_at s.port i) same
-        ∙ (ap (λ xs. get_or xs i None) (all_slots os (with_slots g.port (set g.port.slots i None))) ∙ get_or-set_same g.port.slots i None None (slot_there g.port.slots i c e))
+vacated g i h r = grind (arith, all_slots, get_or-set_same, slot_there)
 
 -- ONE ENTRY
 
@@ -89,14 +49,7 @@ entering loans hand g e f h w lt safe single k =
 
 -- an entry of a well-formed list names a slot
 names_slot : (n : ℕ) (e : SubscriberDetails) (es : List SubscriberDetails) → malformed n (e ∷ es) ≡ false → (e.place < n) × (malformed n es ≡ false)
-names_slot n e es ok =
-    let a = or_parts (not (ltb e.place n) || names_place e.place es) (malformed n es) ok in
-    let b = or_parts (not (ltb e.place n)) (names_place e.place es) a.0 in
-    (ltb-true _ _ (unnot (ltb e.place n) b.0), a.1)
-  where
-    unnot : (b : Bool) → not b ≡ false → b ≡ true
-    unnot true e = refl
-    unnot false e = absurd (false≢true (sym e))
+names_slot n e es ok = search rules
 
 entries : (loans hand : List PointerOffset) (es : List SubscriberDetails) (g : Side) (f : Option ZeroCopyCreationError) (h : Side) → Entries g es f h
     → malformed (length g.port.slots) es ≡ false → SafeBank g.links → ((o : ℕ) → times hand o ≤ 1) → InOrder loans hand g → Joined loans hand g h
@@ -131,7 +84,8 @@ cycling loans hand g n es f h (x, (m, run, sweeps, _)) ok safe single k =
 
 pub updating : (loans hand : List PointerOffset) (g : Side) (n : ℕ) (es : List SubscriberDetails) (f : Option SendError) (h : Side) → Updates g n es f h
     → SafeBank g.links → ((o : ℕ) → times hand o ≤ 1) → InOrder loans hand g → Joined loans hand g h
-updating loans hand g n es f h w safe single k = known (is_seen g.port.seen n) w
+updating loans hand g n es f h w safe single k =
+    goes (is_seen g.port.seen n) w (λ v. still v.1) (λ v. formed (malformed (length g.port.slots) es) refl v)
   where
     still : h ≡ g → Joined loans hand g h
     still same = subst (Joined loans hand g) (sym same) (record { order = k; passage = passage_refl g })
@@ -139,7 +93,3 @@ updating loans hand g n es f h w safe single k = known (is_seen g.port.seen n) w
     formed : (b : Bool) → malformed (length g.port.slots) es ≡ b → Goes b ((f ≡ Some send.MalformedList) × (h ≡ g)) (Cycles g n es f h) → Joined loans hand g h
     formed true bad v = still v.1
     formed false ok v = cycling loans hand g n es f h v ok safe single k
-
-    known : (b : Bool) → Goes b ((f ≡ None) × (h ≡ g)) (Goes (malformed (length g.port.slots) es) ((f ≡ Some send.MalformedList) × (h ≡ g)) (Cycles g n es f h)) → Joined loans hand g h
-    known true v = still v.1
-    known false v = formed (malformed (length g.port.slots) es) refl v

@@ -1,35 +1,18 @@
 -- What a publisher sees of the bank: its own links, and what they hold.
-use Rattle.std.proofs.Common.{◌≡◌, ℕ, zero, suc, Bool, true, false, cond, ◌&&◌, eqb, List, [], ◌∷◌, set, is_some, Some, None, sum_by, Option, sym, refl, ap, ◌∙◌, ⊎_elim, arith}
+use Rattle.std.proofs.Common.{arith, rules, true, false, cond, ◌≡◌, ℕ, suc, List, [], ◌∷◌, set, Some, None, sum_by, Option, refl, ◌∙◌}
 use Rattle.std.specs.Option.{option_map}
 use Rattle.std.proofs.lemmas.List.Sums.{sum_by-cons}
-use Rattle.std.proofs.lemmas.Bool.{cases_Bool, cond-true, cond-false, and_parts, and_from, eq-eqb, eqb-true, false≢true}
 use Rattle.elementary.specs.Ids.{same_port}
 use Rattle.elementary.specs.declared.port_id.PortId.{PortId}
 use Rattle.elementary.specs.declared.pointer_offset.PointerOffset.{PointerOffset}
 use Rattle.elementary.specs.declared.link.LinkDetails.{LinkDetails}
 use Rattle.rules.specs.Pools.{by}
-use Rattle.rules.specs.Links.{Link, attached, listed, times}
+use Rattle.rules.specs.Links.{Link}
 use Rattle.rules.specs.Bank.{Places, at, changed}
 use Rattle.rules.specs.Publisher.{Pub}
 use Rattle.rules.specs.Holdings.{owned, holding, HeldSame}
-use Rattle.rules.specs.Books.{mine, held_here, held_by, owns, Wired, InOrder}
-use Rattle.rules.proofs.Keep.{moving}
-
--- PORT IDS
-
-pub same_port_eq : (a b : PortId) → same_port a b ≡ true → a ≡ b
-same_port_eq a b e =
-    let p = and_parts (eqb a.high b.high) (eqb a.low b.low) e in
-    let h : a.high ≡ b.high = eqb-true a.high b.high p.0 in
-    let l : a.low ≡ b.low = eqb-true a.low b.low p.1 in
-    ap (λ x. record { high = x; low = a.low }) h ∙ ap (λ x. record { high = b.high; low = x }) l
-
-pub same_port_refl : (a : PortId) → same_port a a ≡ true
-same_port_refl a = and_from _ _ (eq-eqb a.high a.high refl) (eq-eqb a.low a.low refl)
-
--- two ids that differ do so either way round
-pub apart_ports : (a b : PortId) → same_port a b ≡ false → same_port b a ≡ false
-apart_ports a b e = ⊎_elim (λ yes. absurd (false≢true (sym e ∙ (ap (same_port a) (same_port_eq b a yes) ∙ same_port_refl a)))) (λ no. no) (cases_Bool (same_port b a))
+use Rattle.rules.specs.Books.{mine, held_here, held_by, owns, InOrder}
+use Rattle.rules.proofs.Lists.{set_each}
 
 -- ONE PLACE
 
@@ -54,101 +37,41 @@ pub unmoved_trans : {id : PortId} {ps qs rs : Places} → Unmoved id ps qs → U
 unmoved_trans a b = record { alike = λ i. record { details = (b.alike i).details ∙ (a.alike i).details; holds = λ o. (b.alike i).holds o ∙ (a.alike i).holds o } }
 
 pub unmoved_set : (id : PortId) (ps : Places) (i : ℕ) (x : Option Link) → Alike id (at ps i) x → Unmoved id ps (set ps i x)
-unmoved_set id ps i x k = record { alike = go ps i k }
-  where
-    go : (qs : Places) (i : ℕ) → Alike id (at qs i) x → (j : ℕ) → Alike id (at qs j) (at (set qs i x) j)
-    go [] i k j = alike_refl id None
-    go (q ∷ qs) zero k zero = k
-    go (q ∷ qs) zero k (suc j) = alike_refl id (at qs j)
-    go (q ∷ qs) (suc i) k zero = alike_refl id q
-    go (q ∷ qs) (suc i) k (suc j) = go qs i k j
-
--- whether a place is a publisher's own
-owned_by : (id : PortId) (x : Option Link) → owns id x ≡ is_some (own_details id x)
-owned_by id None = refl
-owned_by id (Some l) = ⊎_elim (λ yes. yes ∙ sym (ap is_some (cond-true (mine id l) (Some l.details) None yes))) (λ no. no ∙ sym (ap is_some (cond-false (mine id l) (Some l.details) None no))) (cases_Bool (mine id l))
-
-pub unmoved_owns : (id : PortId) (ps qs : Places) → Unmoved id ps qs → (i : ℕ) → owns id (at qs i) ≡ owns id (at ps i)
-unmoved_owns id ps qs u i = owned_by id (at qs i) ∙ (ap is_some (u.alike i).details ∙ sym (owned_by id (at ps i)))
+unmoved_set id ps i x k = record { alike = set_each (Alike id) (alike_refl id) ps i x None k }
 
 -- two places that are not a publisher's own are alike for it
 pub none_held : (id : PortId) (x : Option Link) → owns id x ≡ false → (own_details id x ≡ None) × ((o : ℕ) → held_here id o x ≡ 0)
-none_held id None e = (refl, λ o. refl)
-none_held id (Some l) e = (cond-false _ _ _ e, λ o. cond-false _ _ _ e)
+none_held id x h = search rules
 
 pub foreign : (id : PortId) (x y : Option Link) → owns id x ≡ false → owns id y ≡ false → Alike id x y
-foreign id x y a b =
-    let f = none_held id x a in
-    let g = none_held id y b in
-    record { details = g.0 ∙ sym f.0; holds = λ o. g.1 o ∙ sym (f.1 o) }
+foreign id x y a b = search rules
 
 -- a link that is one publisher's is no other's
 pub not_mine : (a id : PortId) (l : Link) → same_port a id ≡ false → same_port l.details.sender_port_id id ≡ true → mine a l ≡ false
-not_mine a id l ne e = ⊎_elim
-    (λ yes. let p = and_parts (attached l.sender_end) _ yes in
-    absurd (false≢true (sym (apart_ports a id ne) ∙ (ap (same_port id) (sym (same_port_eq l.details.sender_port_id a p.1)) ∙ (ap (λ x. same_port id x) (same_port_eq l.details.sender_port_id id e) ∙ same_port_refl id)))))
-    (λ no. no) (cases_Bool (mine a l))
+not_mine a id l ne e = search rules
 
 pub not_owned_by_other : (a id : PortId) (x : Option Link) → same_port a id ≡ false → owns id x ≡ true → owns a x ≡ false
-not_owned_by_other a id None ne e = refl
-not_owned_by_other a id (Some l) ne e = not_mine a id l ne (and_parts (attached l.sender_end) _ e).1
+not_owned_by_other a id x h k = search rules
 
 -- one publisher's link changed, as no other publisher sees
 pub unmoved_changed : (a id : PortId) (ps : Places) (i : ℕ) (f : Link → Link) → ((l : Link) → (f l).details ≡ l.details) → same_port a id ≡ false → owns id (at ps i) ≡ true
     → Unmoved a ps (changed ps i f)
-unmoved_changed a id ps i f same ne e = unmoved_set a ps i (option_map f (at ps i)) (foreign a (at ps i) (option_map f (at ps i)) (not_owned_by_other a id (at ps i) ne e) (through (at ps i) e))
-  where
-    through : (x : Option Link) → owns id x ≡ true → owns a (option_map f x) ≡ false
-    through None e = refl
-    through (Some l) e = not_mine a id (f l) ne (ap (λ (d : LinkDetails). same_port d.sender_port_id id) (same l) ∙ (and_parts (attached l.sender_end) _ e).1)
+unmoved_changed a id ps i f same ne e = grind (arith, unmoved_set, foreign, not_owned_by_other, not_mine)
 
--- a change that keeps a link's details and whose it is
-pub own_changed : (f : Link → Link) → ((id : PortId) (l : Link) → own_details id (Some (f l)) ≡ own_details id (Some l)) → (id : PortId) (ps : Places) (i j : ℕ)
-    → own_details id (at (changed ps i f) j) ≡ own_details id (at ps j)
-own_changed f keep id ps i j = go ps i j
+-- what a change of a link keeps of it, a change of a place keeps of each place
+pub kept_by : {R : Type 0} (h : Option Link → R) (f : Link → Link) → ((l : Link) → h (Some (f l)) ≡ h (Some l)) → (ps : Places) (i j : ℕ) → h (at (changed ps i f) j) ≡ h (at ps j)
+kept_by h f keep ps i = set_each (λ x y. h y ≡ h x) (λ x. refl) ps i _ None (through (at ps i))
   where
-    through : (x : Option Link) → own_details id (option_map f x) ≡ own_details id x
-    through None = refl
-    through (Some l) = keep id l
-
-    go : (qs : Places) (i j : ℕ) → own_details id (at (changed qs i f) j) ≡ own_details id (at qs j)
-    go [] i j = refl
-    go (q ∷ qs) zero zero = through q
-    go (q ∷ qs) zero (suc j) = refl
-    go (q ∷ qs) (suc i) zero = refl
-    go (q ∷ qs) (suc i) (suc j) = go qs i j
+    through : (x : Option Link) → h (option_map f x) ≡ h x
+    through x = search rules
 
 -- WHAT SUBSCRIBERS AND TURNS LEAVE
 
-abbrev narrowed : PortId → Option LinkDetails → Option LinkDetails
-narrowed id x = by x None (λ d. cond (same_port d.sender_port_id id) (Some d) None)
-
-own_narrowed : (id : PortId) (x : Option Link) → own_details id x ≡ narrowed id (owned x)
-own_narrowed id None = refl
-own_narrowed id (Some l) = go (attached l.sender_end)
-  where
-    go : (b : Bool) → cond (b && same_port l.details.sender_port_id id) (Some l.details) None ≡ narrowed id (cond b (Some l.details) None)
-    go true = refl
-    go false = refl
-
 here_narrowed : (id : PortId) (o : ℕ) (x : Option Link) → held_here id o x ≡ by (owned x) 0 (λ d. cond (same_port d.sender_port_id id) (holding x o) 0)
-here_narrowed id o None = refl
-here_narrowed id o (Some l) = go (attached l.sender_end)
-  where
-    go : (b : Bool) → cond (b && same_port l.details.sender_port_id id) (times (listed l) o) 0
-        ≡ by (cond b (Some l.details) None) 0 (λ d. cond (same_port d.sender_port_id id) (cond b (times (listed l) o) 0) 0)
-    go true = refl
-    go false = refl
+here_narrowed id o x = search rules
 
 pub unmoved_held : (id : PortId) (ps qs : Places) → HeldSame ps qs → Unmoved id ps qs
-unmoved_held id ps qs h = record {
-  alike = λ i. let k = h.keeps i in record {
-    details = own_narrowed id (at qs i) ∙ (ap (narrowed id) k.owner ∙ sym (own_narrowed id (at ps i)));
-    holds = λ o. here_narrowed id o (at qs i)
-        ∙ (ap (λ x. by x 0 (λ d. cond (same_port d.sender_port_id id) (holding (at qs i) o) 0)) k.owner
-        ∙ (ap (λ n. by (owned (at ps i)) 0 (λ d. cond (same_port d.sender_port_id id) n 0)) (k.holds o) ∙ sym (here_narrowed id o (at ps i))));
-  };
-}
+unmoved_held id ps qs h = grind (arith, here_narrowed)
 
 -- A PUBLISHER IN ORDER
 
@@ -161,17 +84,6 @@ sum_alike f z (p ∷ ps) (q ∷ qs) h = omega (arith, sum_by-cons f q qs, sum_by
 pub unmoved_held_by : (id : PortId) (ps qs : Places) → Unmoved id ps qs → (o : ℕ) → held_by id qs o ≡ held_by id ps o
 unmoved_held_by id ps qs u o = sum_alike (held_here id o) refl ps qs (λ i. (u.alike i).holds o)
 
-pub unmoved_wired : (p : Pub) (ps qs : Places) → Unmoved p.id ps qs → Wired p ps → Wired p qs
-unmoved_wired p ps qs u w = record {
-  own = λ i c e. unmoved_owns p.id ps qs u c.place ∙ w.own i c e;
-  apart = w.apart;
-  cover = λ j e. w.cover j (sym (unmoved_owns p.id ps qs u j) ∙ e);
-  few = w.few;
-}
-
 pub unmoved_order : (loans hand : List PointerOffset) (p : Pub) (ps qs : Places) → Unmoved p.id ps qs
     → InOrder loans hand (record { port = p; links = ps }) → InOrder loans hand (record { port = p; links = qs })
-unmoved_order loans hand p ps qs u k = record {
-  books = moving loans hand hand p ps qs (λ o. omega (arith, unmoved_held_by p.id ps qs u o)) k.books;
-  wired = unmoved_wired p ps qs u k.wired;
-}
+unmoved_order loans hand p ps qs u k = grind (arith, unmoved_held_by)

@@ -1,35 +1,17 @@
 -- The worked examples.
-use Rattle.std.proofs.Common.{◌≡◌, ℕ, true, [], ◌∷◌, Some, Err, Option, sym, refl, ap, ◌∙◌}
-use Rattle.std.proofs.lemmas.Bool.{true≢false, false≢true, cond-false, and_right}
-use Rattle.elementary.specs.declared.error.SendError.{SendError}
+use Rattle.std.proofs.Common.{arith, rules, ◌≡◌, ℕ, true, [], ◌∷◌, Some, refl}
 use Rattle.elementary.specs.declared.error.SendError.TheVariants as send
-use Rattle.elementary.specs.declared.error.ZeroCopySendError.TheVariants as sending
 use Rattle.elementary.specs.declared.link.Mark.TheVariants.{Broken}
-use Rattle.rules.specs.Pools.{by}
-use Rattle.rules.specs.Links.{send_answer}
 use Rattle.rules.specs.Bank.{at}
-use Rattle.rules.specs.Publisher.{Connection, Going, Handler, fails, verdict, judged, again, ended, worse, is_internal, Tries, tried, turned, Rounds, stopped, next}
+use Rattle.rules.specs.Publisher.{Connection, Going, Handler, fails, ended, Tries, Rounds}
 use Rattle.rules.specs.Examples.{Examples, first_chunk, link_with}
 
--- a try at a broken link fails at once
-broken_verdict : (f : Handler) (c : Connection) (a : Going) (n : ℕ) → at a.side.links c.place ≡ Some (link_with 1 true Broken [] []) → verdict f a.side c first_chunk n ≡ fails send.InternalError
-broken_verdict f c a n e = ap (λ x. judged f a.side c n (by x (Err sending.NotConnected) (λ l. send_answer l first_chunk))) e
-
 broken_try : (f : Handler) (c : Connection) (a b : Going) (n : ℕ) → at a.side.links c.place ≡ Some (link_with 1 true Broken [] []) → Tries f first_chunk c n a b → b ≡ ended a c first_chunk (fails send.InternalError)
-broken_try f c a b n e (tried g x) = x ∙ ap (ended a c first_chunk) (broken_verdict f c a n e)
-broken_try f c a b n e (turned ps g t w) = absurd (false≢true (sym (ap again (broken_verdict f c a n e)) ∙ g))
-
-worse_internal : (f : Option SendError) → worse f send.InternalError ≡ Some send.InternalError
-worse_internal f = cond-false _ _ _ (and_right _ _ refl)
+broken_try f c a b n h k = search rules
 
 broken_round : (f : Handler) (c d : Connection) (a b : Going) → at a.side.links c.place ≡ Some (link_with 1 true Broken [] [])
     → Rounds f first_chunk (Some c ∷ (Some d ∷ [])) a b → (b.side.links ≡ a.side.links) × (b.got ≡ a.got) × (b.fault ≡ Some send.InternalError)
-broken_round f c d a b e (stopped t i) =
-    let x = broken_try f c a b 0 e t in
-    (ap (λ (z : Going). z.side.links) x, ap (λ (z : Going). z.got) x, ap (λ (z : Going). z.fault) x ∙ worse_internal a.fault)
-broken_round f c d a b e (next {m = m} t i r) =
-    let x = broken_try f c a m 0 e t in
-    absurd (true≢false (sym (ap is_internal (ap (λ (z : Going). z.fault) x ∙ worse_internal a.fault)) ∙ i))
+broken_round f c d a b h k = grind (arith, broken_try)
 
 pub examples : Examples
 examples = record {
