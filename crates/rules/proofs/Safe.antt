@@ -10,7 +10,7 @@ use Rattle.elementary.specs.declared.link.Standing.{Standing}
 use Rattle.elementary.specs.declared.link.Mark.{Mark}
 use Rattle.rules.specs.Pools.{by}
 use Rattle.rules.specs.Links.{Link, Proper, times, attached, never, stepped, fresh, most_returned, send_after, reclaim_after, receive_after, release_after}
-use Rattle.rules.specs.Bank.{Places, at, changed, sent, reclaimed, create_fault, MayTake, created, detached, Move, receive_at, release_at, moved, Turned, with_mark, SetsMark, SoundBank, Unsent, SafeBank, StaysSound, StaysSafe}
+use Rattle.rules.specs.Bank.{Places, at, changed, sent, reclaimed, create_fault, MayTake, created, detached, Move, receive_at, release_at, moved, Turned, with_mark, SetsMark, SoundBank, Unsent, SafeBank, StaysSafe}
 use Rattle.rules.specs.Publisher.{cleared}
 use Rattle.rules.proofs.Banks.{turned_by, proper_marked, proper_lists, before, changed_at, set_place, left_of, marking_by, sound_changed, sound_sent, sound_reclaimed, sound_moved, sound_created, sound_detached, stays_sound}
 
@@ -90,15 +90,6 @@ safe_marked rigged ps i m qs w s =
     marking_by SafeBank (λ rs j x. safe_changed rs j (λ l. with_mark l x) (λ l u. u)
     (λ k. sound_changed rs j (λ l. with_mark l x) (proper_marked x) (λ l. refl) k))
     rigged ps i m qs w s
-
-pub bank_stays_sound : StaysSound
-bank_stays_sound = record {
-  sending = stays_sound.sending;
-  reclaiming = stays_sound.reclaiming;
-  turning = stays_sound.turning;
-  creating = stays_sound.creating;
-  detaching = stays_sound.detaching;
-}
 
 pub bank_stays_safe : StaysSafe
 bank_stays_safe = record {

@@ -223,7 +223,7 @@ pub record SafeBank (ps : Places) : Type 0 where
 
 -- EVERY CALL KEEPS A BANK SOUND
 
--- what is true of a bank, and stays so
+-- what is true of a bank stays so, whatever is called and whatever marks a rig sets
 pub record Lasts (P : Places → Type 0) : Type 0 where
   pub sending : (ps : Places) (i : ℕ) (o : PointerOffset) → P ps → P (sent ps i o)
   pub reclaiming : (ps : Places) (i : ℕ) → P ps → P (reclaimed ps i)
@@ -232,14 +232,10 @@ pub record Lasts (P : Places → Type 0) : Type 0 where
   pub detaching : (end : End) (ps : Places) (i : ℕ) → P ps → P (detached end ps i)
   pub marking : (rigged : Bool) (ps : Places) (i : ℕ) (m : Mark) (qs : Places) → SetsMark rigged ps i m qs → P ps → P qs
 
-pub record StaysSound : Type 0 where
-  pub sending : (ps : Places) (i : ℕ) (o : PointerOffset) → SoundBank ps → SoundBank (sent ps i o)
-  pub reclaiming : (ps : Places) (i : ℕ) → SoundBank ps → SoundBank (reclaimed ps i)
-  pub turning : (ps qs : Places) → Turned ps qs → SoundBank ps → SoundBank qs
-  pub creating : (end : End) (ps : Places) (d : LinkDetails) (p : ℕ) → create_fault end ps d ≡ None → MayTake ps d p → SoundBank ps → SoundBank (created end ps d p)
-  pub detaching : (end : End) (ps : Places) (i : ℕ) → SoundBank ps → SoundBank (detached end ps i)
+abbrev pub StaysSound : Type 0
+StaysSound = Lasts SoundBank
 
--- so does every call, and a rig that sets marks; and where no sender was ever attached, nothing was sent
+-- and where no sender was ever attached, nothing was sent
 pub record StaysSafe : Type 0 where
-  pub sound : Lasts SoundBank
+  pub sound : StaysSound
   pub safe : Lasts SafeBank

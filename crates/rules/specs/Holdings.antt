@@ -30,18 +30,18 @@ pub record Stirred (ps qs : Places) : Type 0 where
   pub same : HeldSame ps qs
   pub safe : SafeBank ps → SafeBank qs
 
--- no subscriber takes anything away from a publisher: whatever it calls, and whatever a turn moves
-pub record NothingTakenAway : Type 0 where
-  pub turning : (ps qs : Places) → Turned ps qs → HeldSame ps qs
-  pub receiving : (t : Translation) (s : Half) → HeldSame s.links (receive_after t s).links
-  pub releasing : (s : Half) (x : ChunkDetails) → HeldSame s.links (release_after s x).links
-  pub updating : (known : PortId → Bool) (s : Half) (n : ℕ) (es : List PublisherDetails) (r : Option UpdateError) (t : Half) → Updates known s n es r t → HeldSame s.links t.links
-  pub closing : (s : Half) → HeldSame s.links (closed s).links
+-- how links before and after stand to one another, whatever a subscriber calls and whatever a turn moves
+pub record BySubscribers (R : Places → Places → Type 0) : Type 0 where
+  pub turning : (ps qs : Places) → Turned ps qs → R ps qs
+  pub receiving : (t : Translation) (s : Half) → R s.links (receive_after t s).links
+  pub releasing : (s : Half) (x : ChunkDetails) → R s.links (release_after s x).links
+  pub updating : (known : PortId → Bool) (s : Half) (n : ℕ) (es : List PublisherDetails) (r : Option UpdateError) (t : Half) → Updates known s n es r t → R s.links t.links
+  pub closing : (s : Half) → R s.links (closed s).links
 
--- and a bank that was safe still is, whatever a subscriber calls and whatever a turn moves
-pub record OnlyStirred : Type 0 where
-  pub turning : (ps qs : Places) → Turned ps qs → Stirred ps qs
-  pub receiving : (t : Translation) (s : Half) → Stirred s.links (receive_after t s).links
-  pub releasing : (s : Half) (x : ChunkDetails) → Stirred s.links (release_after s x).links
-  pub updating : (known : PortId → Bool) (s : Half) (n : ℕ) (es : List PublisherDetails) (r : Option UpdateError) (t : Half) → Updates known s n es r t → Stirred s.links t.links
-  pub closing : (s : Half) → Stirred s.links (closed s).links
+-- no subscriber takes anything away from a publisher
+abbrev pub NothingTakenAway : Type 0
+NothingTakenAway = BySubscribers HeldSame
+
+-- and a bank that was safe still is
+abbrev pub OnlyStirred : Type 0
+OnlyStirred = BySubscribers Stirred

@@ -1,5 +1,5 @@
-use Rattle.rules.proofs.Safe.{bank_stays_sound}
+use Rattle.rules.proofs.Banks.{stays_sound}
 use Rattle.rules.proofs.bank_laws.bank_stays_sound_stands.Goals as goal
 
 pub returns : goal.returns
-returns c = bank_stays_sound
+returns c = stays_sound
