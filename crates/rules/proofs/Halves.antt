@@ -1,5 +1,5 @@
 -- No call of a subscriber changes what the links hold for their senders.
-use Rattle.std.proofs.Common.{arith, rules, ◌≡◌, ℕ, zero, suc, ◌+◌, Bool, true, false, cond, List, [], ◌∷◌, length, get_or, drop, is_some, Some, None, Ok, Err, Option, Result, sym, refl, subst}
+use Rattle.std.proofs.Common.{rules, ◌≡◌, ℕ, zero, suc, ◌+◌, Bool, true, false, cond, List, [], ◌∷◌, length, get_or, drop, is_some, Some, None, Ok, Err, Option, Result, sym, refl, subst}
 use Rattle.std.specs.List.{remove}
 use Rattle.elementary.specs.declared.port_id.PortId.{PortId}
 use Rattle.elementary.specs.declared.pointer_offset.PointerOffset.{PointerOffset}
@@ -10,10 +10,10 @@ use Rattle.elementary.specs.declared.error.ReceiveError.{ReceiveError}
 use Rattle.elementary.specs.declared.error.UpdateError.{UpdateError}
 use Rattle.elementary.specs.declared.error.ZeroCopyReceiveError.{ZeroCopyReceiveError}
 use Rattle.elementary.specs.declared.error.ZeroCopyCreationError.{ZeroCopyCreationError}
+use Rattle.rules.specs.Publisher.{is_seen, first_of}
+use Rattle.rules.specs.Subscriber.{malformed, begun, Stored, Half, with_links, with_expired, key_at, stored_at, has_borrows, dropped, victim, struck, has_room, room_made, listed, busy, key_prepared, prepared, prepare_fault, tag_slot, has_peer, wanted, has_key, stored_new, made_at, MakesBy, link_fault, Enters, entry_fault, stops, is_stale, taken_out, visited, visit_fault, swept, finished, Cycles, Updates, Translation, left, asks, asked, Way, gives, drops, ends, Walk, passed, walk, Walked, onward, walks, expired_walk, Served, served, serve, receive_after, over, release_after, ends_detached}
 use Rattle.rules.specs.Pools.{by}
 use Rattle.rules.specs.Bank.{Places, receives, received, given_back, MayTake, created, detached, receive_at, release_at, has_data}
-use Rattle.rules.specs.Publisher.{first_of}
-use Rattle.rules.specs.Subscriber.{Stored, Half, with_links, with_expired, key_at, stored_at, has_borrows, dropped, victim, struck, has_room, room_made, listed, busy, key_prepared, prepared, prepare_fault, tag_slot, has_peer, wanted, has_key, stored_new, made_at, MakesBy, link_fault, Enters, entry_fault, stops, is_stale, taken_out, visited, visit_fault, swept, finished, Cycles, Updates, Translation, left, asks, asked, Way, gives, drops, ends, Walk, passed, walk, Walked, onward, walks, expired_walk, Served, served, serve, receive_after, over, release_after, ends_detached}
 use Rattle.rules.specs.Holdings.{Stirred, NothingTakenAway, OnlyStirred}
 use Rattle.rules.proofs.Banks.{goes}
 use Rattle.rules.proofs.Holdings.{stir_refl, stir_trans, stir_moved, stir_detached, stir_created, stir_turned}
@@ -147,6 +147,9 @@ stir_makes : (f : Option ZeroCopyCreationError) (s : Half) (e : PublisherDetails
 stir_makes None s e t none w = half_like s.links (made_at s e w.0) t w.2 (stir_made s e w.0 none w.1)
 stir_makes (Some f) s e t some w = half_like s.links s t w (stir_refl s.links)
 
+stir_begun : (s : Half) (n : ℕ) → Stirred s.links (begun s n).links
+stir_begun s n = half_cond s.links _ _ _ (stir_refl s.links) (stir_refl s.links)
+
 stir_tagged : (s : Half) (i : ℕ) → Stirred s.links (tag_slot s i).links
 stir_tagged s i = half_by s.links (key_at s i) s _ (stir_refl s.links) (λ k. stir_refl s.links)
 
@@ -164,7 +167,10 @@ stir_cycles (e ∷ es) s p r t w =
     (goes (stops (entry_fault s e)) w.2 (λ v. half_like w.0.links w.0 t v.1 (stir_refl w.0.links)) (λ v. stir_cycles es w.0 (first_of p (entry_fault s e)) r t v))
 
 stir_updates : (known : PortId → Bool) (s : Half) (n : ℕ) (es : List PublisherDetails) (r : Option UpdateError) (t : Half) → Updates known s n es r t → Stirred s.links t.links
-stir_updates known s n es r t w = grind (arith, stir_cycles)
+stir_updates known s n es r t w =
+    goes (is_seen s.port.seen n) w (λ v. half_like s.links s t v.1 (stir_refl s.links))
+    (λ v. goes (malformed known (length s.port.slots) es) v (λ bad. half_like s.links s t bad.1 (stir_refl s.links))
+    (λ run. stir_trans (stir_begun s n) (stir_cycles es (begun s n) None r t run)))
 
 pub nothing_taken_away : NothingTakenAway
 nothing_taken_away = record {

@@ -140,7 +140,13 @@ emptied_slots loans hand (one r rest) k =
 
 -- the history comes into hand
 pub history_in_hand : (loans hand : List PointerOffset) (p : Pub) (ps : Places) → Books loans hand p ps → Books loans (p.history ++ hand) (shut p) ps
-history_in_hand loans hand p ps k = search (rules, times_append)
+history_in_hand loans hand p ps k = record {
+  ledger = k.ledger;
+  balance = λ o. omega (arith, k.balance o, times_append p.history hand o);
+  free = k.free;
+  alone = k.alone;
+  once = λ o. omega arith;
+}
 
 pub closing : (hand : List PointerOffset) (g : Side) (r : Option CloseError) (h : Side) → Closes g r h → InOrder g.port.loans hand g → InOrder h.port.loans hand h
 closing hand g r h c k =
