@@ -18,11 +18,11 @@ pub struct Queue<T, const N: usize> {
 }
 
 impl<T, const N: usize> Queue<T, N> {
-    ghost use Rattle.std.specs.Prelude.{◌≡◌, min, [], ◌++◌, length, take, IfOk, ◌==◌, nat_le};
+    ghost use Rattle.std.specs.Prelude.{◌≡◌, min, [], length, IfOk, ◌==◌, nat_le};
     ghost use Rattle.std.specs.List.{slice_get};
     ghost use Rattle.std.specs.VecDeque.Iter.{deque_iter_rest};
     ghost use Rattle.std.specs.Option.{option_map};
-    ghost use Rattle.container.specs.Queue.{entries, bound, oldest, later, pushed, handed_back, overflowed, evicted, has, without, Place};
+    ghost use Rattle.container.specs.Queue.{entries, bound, oldest, later, pushed, handed_back, overflowed, evicted};
 
     pub fn new(heap: Global) -> Result<Queue<T, N>, AllocError>
         ensures { IfOk result (λ q. (entries q ≡ []) × (bound q ≡ N)) }
@@ -127,11 +127,8 @@ impl<T, const N: usize> Queue<T, N> {
 }
 
 impl<T: PartialEq, const N: usize> Queue<T, N> {
-    ghost use Rattle.std.specs.Prelude.{◌≡◌, min, [], ◌++◌, length, take, IfOk, ◌==◌, nat_le};
-    ghost use Rattle.std.specs.List.{slice_get};
-    ghost use Rattle.std.specs.VecDeque.Iter.{deque_iter_rest};
-    ghost use Rattle.std.specs.Option.{option_map};
-    ghost use Rattle.container.specs.Queue.{entries, bound, oldest, later, pushed, handed_back, overflowed, evicted, has, without, Place};
+    ghost use Rattle.std.specs.Prelude.{◌≡◌};
+    ghost use Rattle.container.specs.Queue.{entries, bound, has, without, Place};
 
     /// The place of the oldest entry equal to `x`.
     fn position(&self, x: &T) -> Option<usize>
@@ -163,11 +160,8 @@ impl<T: PartialEq, const N: usize> Queue<T, N> {
 }
 
 impl<T: Copy, const N: usize> Queue<T, N> {
-    ghost use Rattle.std.specs.Prelude.{◌≡◌, min, [], ◌++◌, length, take, IfOk, ◌==◌, nat_le};
-    ghost use Rattle.std.specs.List.{slice_get};
-    ghost use Rattle.std.specs.VecDeque.Iter.{deque_iter_rest};
-    ghost use Rattle.std.specs.Option.{option_map};
-    ghost use Rattle.container.specs.Queue.{entries, bound, oldest, later, pushed, handed_back, overflowed, evicted, has, without, Place};
+    ghost use Rattle.std.specs.Prelude.{◌≡◌, ◌++◌, take};
+    ghost use Rattle.container.specs.Queue.{entries, bound};
 
     /// Pushes a copy of each entry onto `out`, oldest first, as far as there is room.
     pub fn append_copies_to<const K: usize>(&self, out: &mut Queue<T, K>)

@@ -1,4 +1,4 @@
-//! Why a call is refused. Every case has a number, and one of them carries a cause that is a number too.
+//! Why a call is refused. Every case that a user meets has a number, and one of them carries a cause that is a number too.
 ghost use Rattle.std.specs.Prelude.{◌≡◌};
 ghost use Rattle.elementary.specs.declared.error.Refusal.{Refusal};
 ghost use Rattle.elementary.specs.Refusals.{allocation_refusal, deallocation_refusal, creation_refusal, receiving_refusal, releasing_refusal, connection_refusal, loan_refusal, fill_refusal, send_refusal, return_refusal, receive_refusal, read_refusal, update_refusal, close_refusal, settings_refusal, number_alone};
@@ -9,7 +9,7 @@ use std::fmt;
 use thiserror::Error;
 
 /// What a refusal tells: its number, and the number of the cause if it carries one. Numbers and no cases, since these are what users see
-/// and scripts compare. Each error is an enum, and turns into them by `From`: a line each, as no derive gives an enum's discriminant.
+/// and scripts compare. Each error that a user meets is an enum, and turns into them by `From`: a line each, as no derive gives an enum's discriminant.
 #[derive(Clone, Copy, PartialEq, Eq, Debug)]
 pub struct Refusal {
     pub number: u8,
@@ -185,7 +185,7 @@ impl From<LoanError> for Refusal {
 pub enum FillError {
     #[error("the publisher does not have this loan out")]
     LoanNotLive = 6,
-    #[error("the bytes are more than the bucket holds")]
+    #[error("there is no such chunk, its bucket is too small, or bytes are missing")]
     OutOfBounds = 7,
 }
 

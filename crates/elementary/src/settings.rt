@@ -40,11 +40,11 @@ impl PublisherSettings {
     pub fn check(&self) -> Result<(), SettingsError>
         ensures { result_err result ≡ publisher_fault self.now }
     {
-        if (1..=8).contains(&self.max_loaned_samples)
-            && (0..=16).contains(&self.history_size)
-            && (1..=8).contains(&self.max_subscribers)
-            && (1..=8).contains(&self.subscriber_max_buffer_size)
-            && (1..=8).contains(&self.subscriber_max_borrowed_samples)
+        if matches!(self.max_loaned_samples, 1..=8)
+            && matches!(self.history_size, 0..=16)
+            && matches!(self.max_subscribers, 1..=8)
+            && matches!(self.subscriber_max_buffer_size, 1..=8)
+            && matches!(self.subscriber_max_borrowed_samples, 1..=8)
             && self.max_retries <= 100
         {
             Ok(())
@@ -58,10 +58,10 @@ impl SubscriberSettings {
     pub fn check(&self) -> Result<(), SettingsError>
         ensures { result_err result ≡ subscriber_fault self.now }
     {
-        if (1..=8).contains(&self.max_publishers)
-            && (1..=8).contains(&self.buffer_size)
-            && (1..=8).contains(&self.max_borrowed_samples)
-            && (1..=4).contains(&self.max_expired_connections)
+        if matches!(self.max_publishers, 1..=8)
+            && matches!(self.buffer_size, 1..=8)
+            && matches!(self.max_borrowed_samples, 1..=8)
+            && matches!(self.max_expired_connections, 1..=4)
         {
             Ok(())
         } else {

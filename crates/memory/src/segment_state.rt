@@ -54,7 +54,7 @@ impl ReferenceCounts {
 }
 
 /// The counts of all segments that a memory may come to have. They are asked with the memory beside them and do not own it, so that the
-/// signatures say that counting changes nothing of it.
+/// signatures say which calls only read it: all but the last.
 #[derive(Debug, Drop)]
 pub struct SegmentState {
     segments: Vec<ReferenceCounts>,
@@ -99,7 +99,8 @@ impl SegmentState {
 
     /// How many hold a chunk.
     pub fn reference_count<M: Segmented>(&self, memory: &M, offset: PointerOffset) -> u64
-        ensures { result ≡ count_at (M.model memory.now).segments self.now offset.value }
+        ensures value { result ≡ count_at (M.model memory.now).segments self.now offset.value }
+        ensures few { result ≤ 10 }
     {
         let segment = usize::from(offset.segment_id());
         memory
@@ -111,6 +112,7 @@ impl SegmentState {
     pub fn borrow_sample<M: Segmented>(&mut self, memory: &M, offset: PointerOffset) -> (u64, usize)
         ensures value { result ≡ (count_at (M.model memory.now).segments self.old offset.value, (home (M.model memory.now).segments offset.value).size) }
         ensures after { self.new ≡ counted (M.model memory.now).segments self.old offset.value }
+        ensures few { result.0 ≤ 10 }
     {
         let segment = usize::from(offset.segment_id());
         let size = memory.bucket_size(segment);
@@ -126,6 +128,7 @@ impl SegmentState {
     pub fn release_sample<M: Segmented>(&mut self, memory: &M, offset: PointerOffset) -> u64
         ensures value { result ≡ count_at (M.model memory.now).segments self.old offset.value }
         ensures after { self.new ≡ uncounted (M.model memory.now).segments self.old offset.value }
+        ensures few { result ≤ 10 }
     {
         let segment = usize::from(offset.segment_id());
         let Some(bucket) = memory.bucket(offset) else {
@@ -140,6 +143,7 @@ impl SegmentState {
     pub fn release_chunk<M: Memory>(&mut self, memory: &mut M, offset: PointerOffset) -> u64
         ensures value { result ≡ count_at (M.model memory.old).segments self.old offset.value }
         ensures after { chunks_of (M.model memory.new) self.new ≡ released (chunks_of (M.model memory.old) self.old) offset.value }
+        ensures few { result ≤ 10 }
     {
         let before = self.release_sample(memory, offset);
         if before == 1 {
