@@ -14,10 +14,9 @@ use Rattle.elementary.specs.declared.error.AllocationError.TheVariants.{OutOfMem
 use Rattle.rules.specs.Memory.{Segment, Fair, segment_at, some_free, request_fault, else_fault, allocation_fault, Allocates, Takes, Grows, remarked, with_segments, blank, marked, freed, taken_at, bucket}
 use Rattle.rules.specs.Pools.{Pool, Dynamic, by, next, took, took_next, checked, handed, handed_by, new_pool, no_pool, pool_at, segments_of, with_pools, fits, fitting, serving, readied, taken_in, can_grow, grown, rounded, dynamic_mem, dynamic_answer, dynamic_after, dynamic_freed, gave}
 use Rattle.rules.proofs.Chunks.{takes_bucket}
-use Rattle.pool.specs.Model.{pool_of, pools_in, spare_count}
+use Rattle.pool.specs.Model.{pool_of, pools_in}
 use Rattle.pool.specs.Dynamic.{dynamic_of}
 use Rattle.pool.specs.declared.pool_allocator.PoolAllocator.{PoolAllocator}
-use Rattle.pool.specs.declared.pool_allocator.SpareSegment.{SpareSegment}
 use Rattle.pool.specs.declared.dynamic_memory.DynamicMemory.{DynamicMemory}
 use Rattle.pool.specs.Soundness.{segments_at, segments_length}
 use Rattle.pool.proofs.Nexts.{next_some, next_free, granted}
@@ -117,8 +116,8 @@ taken_bucket ps o b e =
     (cases_Bool (taken_at (segments_of ps) o))
 
 -- the pools with a new one, of a segment to be
-pub grown_pools : (m : DynamicMemory) (size : ℕ) (x : SpareSegment) (w : PoolAllocator) (rest : List SpareSegment) (after : List PoolAllocator)
-    → after ≡ vec_items m.live ++ w ∷ [] → vec_items m.spare ≡ rest ++ x ∷ [] → pool_of w ≡ new_pool m.end (rounded size) (spare_count x)
+pub grown_pools : (m : DynamicMemory) (size : ℕ) (x : ℕ) (w : PoolAllocator) (rest : List ℕ) (after : List PoolAllocator)
+    → after ≡ vec_items m.live ++ w ∷ [] → vec_items m.spare ≡ rest ++ x ∷ [] → pool_of w ≡ new_pool m.end (rounded size) x
     → pools_in after ≡ (grown (dynamic_of m) size).pools
 grown_pools m size x w rest after e r p =
     ap pools_in e

@@ -1,15 +1,14 @@
 -- What a change of one segment, or one segment more, leaves of a dynamic memory's layout.
-use Rattle.std.specs.Prelude.{◌≡◌, ℕ, ◌+◌, ◌*◌, ◌<◌, List, [], ◌∷◌, ◌++◌, map, length, set, Some, None, vec_items, vec_len, Option, Vec, slice_index, slice_index_or, slice_set, refl}
+use Rattle.std.specs.Prelude.{◌≡◌, ℕ, ◌+◌, ◌*◌, ◌<◌, List, [], ◌∷◌, ◌++◌, length, set, Some, None, vec_items, vec_len, Option, Vec, slice_index, slice_index_or, slice_set, refl}
 use Rattle.std.proofs.Common.{sym, ◌∙◌, ap, subst, ⊎_elim, arith}
 use Rattle.std.specs.declared.alloc.Global.{Global}
-use Rattle.std.proofs.lemmas.List.{get_or-set_same, get_or-set_other, set_past, length-set, get_or-map, length-map, map-set, map_push, length_push, get_or_append_left, get_or_push}
+use Rattle.std.proofs.lemmas.List.{get_or-set_same, get_or-set_other, set_past, length-set, get_or-map, map-set, length_push, get_or_append_left, get_or_push}
 use Rattle.std.proofs.lemmas.Bool.{cases_lt, cases_eq}
 use Rattle.rules.specs.Memory.{Segment, segment_at, no_segment, end_of}
 use Rattle.rules.specs.Pools.{Pool, by, next, took, took_next, gave, pool_at, no_pool, segments_of}
-use Rattle.pool.specs.Model.{pool_of, pools_in, spare_count}
+use Rattle.pool.specs.Model.{pool_of, pools_in}
 use Rattle.pool.specs.Layout.{Laid, Rising, Even, Spares}
 use Rattle.pool.specs.declared.pool_allocator.PoolAllocator.{PoolAllocator}
-use Rattle.pool.specs.declared.pool_allocator.SpareSegment.{SpareSegment}
 use Rattle.pool.specs.declared.dynamic_memory.DynamicMemory.{DynamicMemory}
 use Rattle.pool.specs.Soundness.{segments_at}
 
@@ -116,11 +115,9 @@ layout_push gs g end count st ct l =
 
 -- SEGMENTS TO BE
 
-pub spares_pop : (ps rest : List SpareSegment) (x : SpareSegment) (count : ℕ) → ps ≡ rest ++ x ∷ [] → Spares ps count → Spares rest count × (spare_count x ≡ count)
-spares_pop ps rest x count e s =
-    let m : map spare_count ps ≡ map spare_count rest ++ spare_count x ∷ [] = ap (map spare_count) e ∙ map_push spare_count rest x in
-    let n : length ps ≡ length rest + 1 = ap length e ∙ length_push rest x in
-    let k = length-map rest spare_count in (
-      λ i h. sym (get_or_append_left (map spare_count rest) (spare_count x ∷ []) 0 i (omega arith)) ∙ (sym (ap (λ z. slice_index z i) m) ∙ s i (omega arith)),
-      sym (get_or_push (map spare_count rest) (spare_count x) 0 (length rest) k) ∙ (sym (ap (λ z. slice_index z (length rest)) m) ∙ s (length rest) (omega arith)),
+pub spares_pop : (ns rest : List ℕ) (n count : ℕ) → ns ≡ rest ++ n ∷ [] → Spares ns count → Spares rest count × (n ≡ count)
+spares_pop ns rest n count e s =
+    let l : length ns ≡ length rest + 1 = ap length e ∙ length_push rest n in (
+      λ i h. sym (get_or_append_left rest (n ∷ []) 0 i h) ∙ (sym (ap (λ z. slice_index z i) e) ∙ s i (omega arith)),
+      sym (get_or_push rest n 0 (length rest) refl) ∙ (sym (ap (λ z. slice_index z (length rest)) e) ∙ s (length rest) (omega arith)),
     )

@@ -1,8 +1,6 @@
 -- What always holds of a dynamic memory's segments, made and to be.
-use Rattle.std.specs.Prelude.{◌≡◌, ℕ, ◌*◌, ◌<◌, ◌≤◌, List, map, length, slice_index}
+use Rattle.std.specs.Prelude.{◌≡◌, ℕ, ◌*◌, ◌<◌, ◌≤◌, List, length, slice_index}
 use Rattle.rules.specs.Memory.{Segment, segment_at, end_of}
-use Rattle.pool.specs.Model.{spare_count}
-use Rattle.pool.specs.declared.pool_allocator.SpareSegment.{SpareSegment}
 
 -- a segment has at most 256 buckets of 65,536 bytes
 abbrev pub Sized : ℕ → ℕ → ℕ → ℕ → Type 0
@@ -21,5 +19,5 @@ abbrev pub Even : List Segment → ℕ → Type 0
 Even gs count = (k : ℕ) → k < length gs → length (segment_at gs k).taken ≡ count
 
 -- and so will those to be
-abbrev pub Spares : List SpareSegment → ℕ → Type 0
-Spares ps count = (k : ℕ) → k < length ps → slice_index (map spare_count ps) k ≡ count
+abbrev pub Spares : List ℕ → ℕ → Type 0
+Spares ns count = (k : ℕ) → k < length ns → slice_index ns k ≡ count

@@ -1,8 +1,7 @@
 -- What the code's memories stand for.
-use Rattle.std.specs.Prelude.{ℕ, List, map, vec_items, vec_len}
+use Rattle.std.specs.Prelude.{List, map, vec_items}
 use Rattle.rules.specs.Pools.{Pool}
 use Rattle.pool.specs.declared.pool_allocator.PoolAllocator.{PoolAllocator}
-use Rattle.pool.specs.declared.pool_allocator.SpareSegment.{SpareSegment}
 
 abbrev pub pool_of : PoolAllocator → Pool
 pool_of p = record {
@@ -13,7 +12,3 @@ pool_of p = record {
 
 abbrev pub pools_in : List PoolAllocator → List Pool
 pools_in ps = map pool_of ps
-
--- how many buckets a segment to be will have
-abbrev pub spare_count : SpareSegment → ℕ
-spare_count p = vec_len p.taken

@@ -6,6 +6,7 @@ ghost use Rattle.pool.specs.Order.{Counted, Listed, Apart};
 use crate::request::SegmentLayout;
 use memory::data_segment::Buckets;
 use std::alloc::{AllocError, Global};
+use std::marker::Model;
 
 /// Ghost fields and no model, here and in the memories: the law of every memory is proved of its fields' facts.
 #[derive(Debug, Drop)]
@@ -96,21 +97,27 @@ impl Buckets for PoolAllocator {
 pub struct SpareSegment {
     taken: Vec<bool>,
     freed: Vec<usize>,
-    ghost some: { 1 ≤ vec_len taken },
-    ghost few: { vec_len taken ≤ 256 },
-    ghost room: { vec_len taken ≤ vec_capacity freed },
-    ghost blank: { taken.items ≡ replicate (vec_len taken) false },
-    ghost unused: { freed.items ≡ [] },
+}
+
+impl Model for SpareSegment {
+    ghost use Rattle.std.specs.Prelude.{◌≡◌, ◌≤◌, ℕ, false, [], replicate, vec_len, vec_capacity};
+
+    // How many buckets it will have.
+    ghost Value = { ℕ };
+
+    ghost view = { λ p. vec_len p.taken };
+
+    ghost invariant = { λ p. (1 ≤ vec_len p.taken) × (vec_len p.taken ≤ 256) × (vec_len p.taken ≤ vec_capacity p.freed) × (p.taken.items ≡ replicate (vec_len p.taken) false) × (p.freed.items ≡ []) };
 }
 
 impl SpareSegment {
     ghost use Rattle.std.specs.Prelude.{◌≡◌, IfOk};
     ghost use Rattle.rules.specs.Memory.{Fair};
     ghost use Rattle.rules.specs.Pools.{new_pool};
-    ghost use Rattle.pool.specs.Model.{pool_of, spare_count};
+    ghost use Rattle.pool.specs.Model.{pool_of};
 
     pub(crate) fn new(heap: Global, layout: SegmentLayout) -> Result<SpareSegment, AllocError>
-        ensures { IfOk result (λ p. spare_count p ≡ layout.count) }
+        ensures { IfOk result (λ p. p ≡ layout.count) }
     {
         let taken = vec![in heap; false; layout.count]?;
         let freed = Vec::with_capacity(heap, layout.count)?;
@@ -119,8 +126,8 @@ impl SpareSegment {
 
     /// Gives the segment its place and the size of its buckets.
     pub(crate) fn lay(self, start: usize, bucket_size: usize) -> PoolAllocator
-        requires { Fair bucket_size (spare_count self) }
-        ensures { pool_of result ≡ new_pool start bucket_size (spare_count self) }
+        requires { Fair bucket_size self }
+        ensures { pool_of result ≡ new_pool start bucket_size self }
     {
         let SpareSegment { taken, freed } = self;
         PoolAllocator {

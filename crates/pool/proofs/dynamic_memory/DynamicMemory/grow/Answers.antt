@@ -3,7 +3,7 @@ use Rattle.std.proofs.lemmas.List.{map_push, length-replicate}
 use Rattle.std.proofs.lemmas.Bool.{and_from, lt-ltb, le-leb, cond-true}
 use Rattle.rules.specs.Memory.{blank}
 use Rattle.rules.specs.Pools.{Pool, new_pool, rounded, segments_of, can_grow, grown}
-use Rattle.pool.specs.Model.{pools_in, spare_count}
+use Rattle.pool.specs.Model.{pools_in}
 use Rattle.pool.specs.Dynamic.{dynamic_of}
 use Rattle.pool.specs.Soundness.{pools_length}
 use Rattle.pool.proofs.Layouts.{Layout, layout_push, spares_pop}
@@ -18,7 +18,7 @@ size c =
 pools : (c : goal.After-push_reserved) → pools_in (vec_items c.push_reserved.new.self) ≡ (grown (dynamic_of c.args.self.now) c.args.size).pools
 pools c =
     let s = c.args.self.now in
-    let p = c.lay.ensures ∙ ap (λ z. new_pool s.end z (spare_count c.in_ok-spare.spare)) (size c) in
+    let p = c.lay.ensures ∙ ap (λ z. new_pool s.end z c.in_ok-spare.spare) (size c) in
     grown_pools s c.args.size _ _ _ _ c.push_reserved.ensures.items c.in_ok-spare.ensures.items p
 
 pub invariant_of-self-2 : goal.invariant_of-self-2
@@ -49,7 +49,7 @@ returns c =
     let s = c.args.self.now in
     let e = c.next_multiple_of-bucket_size.ensures in
     let z = rounded_up c.args.size _ e.lower_bound e.upper_bound e.multiple in
-    let p = c.lay.ensures ∙ ap (λ b. new_pool s.end b (spare_count c.in_ok-spare.spare)) z in
+    let p = c.lay.ensures ∙ ap (λ b. new_pool s.end b c.in_ok-spare.spare) z in
     let n = ap (λ b. b * s.count) z in
     let few : length (pools_in (vec_items s.live)) < 4 = omega (arith, s.four, c.in_ok-spare.ensures.len, pools_length s.live) in
     let fits : s.end + rounded c.args.size * s.count ≤ s.capacity = omega (arith, c.if-span-self.false, s.sized.1) in
