@@ -17,7 +17,7 @@ const MAPS: usize = 12;
 
 const BUCKETS: usize = 3;
 
-#[derive(Clone, Copy)]
+#[derive(Clone, Copy, PartialEq, Eq, Debug)]
 enum Consumer {
     Plot,
     Solver,
@@ -37,7 +37,7 @@ impl fmt::Display for Consumer {
 }
 
 // Who still holds a map, maybe after the next one was sent.
-#[derive(Clone, Copy)]
+#[derive(Clone, Copy, PartialEq, Eq, Debug)]
 struct Late {
     map: usize,
     consumer: Consumer,

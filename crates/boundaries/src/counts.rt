@@ -12,7 +12,7 @@ use std::process::Abort;
 use std::test::Fail;
 
 // A call on the counts or on their memory, with the answer that it must give.
-#[derive(Clone, Copy)]
+#[derive(Clone, Copy, PartialEq, Eq, Debug)]
 enum Call {
     Memory(Step),
     // One holder more: there were so many, and the bucket has this size.

@@ -2,14 +2,9 @@
 use crate::steps::Step::*;
 use crate::steps::{At, play_all};
 use elementary::error::SetUpError;
-use memory::data_segment::Memory;
 use pool::dynamic_memory::DynamicMemory;
 use pool::static_memory::StaticMemory;
 use std::test::Fail;
-
-fn is_out_of_range<M: Memory + Drop>(made: Result<M, SetUpError>) -> bool {
-    matches!(made, Err(SetUpError::OutOfRange))
-}
 
 #[test]
 fn static_memory_takes_sizes_to_65536_and_counts_to_256(rt: HostRuntime) -> Result<(), Fail> {
@@ -26,7 +21,10 @@ fn static_memory_takes_sizes_to_65536_and_counts_to_256(rt: HostRuntime) -> Resu
 #[test]
 fn static_memory_refuses_other_sizes_and_counts(rt: HostRuntime) {
     for (size, count) in [(0, 1), (7, 1), (12, 1), (65_544, 1), (8, 0), (8, 257)] {
-        assert!(rt; is_out_of_range(StaticMemory::new(rt.alloc(), size, count)));
+        assert_eq!(rt;
+            StaticMemory::new(rt.alloc(), size, count).err(),
+            Some(SetUpError::OutOfRange)
+        );
     }
 }
 
@@ -161,7 +159,10 @@ fn first_segment_ends_within_the_capacity(rt: HostRuntime) -> Result<(), Fail> {
         DynamicMemory::new(rt.alloc(), 64, 2, 128)?,
         &[Segment(0, 0, 64, 2)],
     );
-    assert!(rt; is_out_of_range(DynamicMemory::new(rt.alloc(), 64, 2, 127)));
+    assert_eq!(rt;
+        DynamicMemory::new(rt.alloc(), 64, 2, 127).err(),
+        Some(SetUpError::OutOfRange)
+    );
     Ok(())
 }
 

@@ -6,7 +6,7 @@ use std::process::Abort;
 use std::test::Fail;
 
 // A call, with the answer that it must give.
-#[derive(Clone, Copy)]
+#[derive(Clone, Copy, PartialEq, Eq, Debug)]
 enum Step {
     Pushes(u32),
     HandsBack(u32),
@@ -16,8 +16,7 @@ enum Step {
     Removes(u32, bool),
     Contains(u32, bool),
     // The entry at a place, counted from the oldest.
-    Gets(usize, u32),
-    GetsNothing(usize),
+    Gets(usize, Option<u32>),
     // Restarts with a limit, and has this one then.
     Restarts(usize, usize),
     // Whether it is empty, and whether it is full.
@@ -33,8 +32,7 @@ fn play(rt: &impl Abort, q: &mut Queue<u32, 3>, step: Step, nth: usize) {
         Pops(x) => assert_eq!(rt; q.pop(), Some(x), "step {nth}"),
         Removes(x, found) => assert_eq!(rt; q.remove(&x), found, "step {nth}"),
         Contains(x, found) => assert_eq!(rt; q.contains(&x), found, "step {nth}"),
-        Gets(i, x) => assert_eq!(rt; q.get(i).copied(), Some(x), "step {nth}"),
-        GetsNothing(i) => assert_eq!(rt; q.get(i).copied(), None, "step {nth}"),
+        Gets(i, x) => assert_eq!(rt; q.get(i).copied(), x, "step {nth}"),
         Restarts(limit, after) => {
             q.restart(limit);
             assert_eq!(rt; q.limit(), after, "step {nth}");
@@ -92,12 +90,12 @@ fn first_in_first_out(rt: HostRuntime) -> Result<(), Fail> {
         &rt,
         rt.alloc(),
         &[
-            Gets(0, 1),
-            Gets(2, 3),
-            GetsNothing(3),
+            Gets(0, Some(1)),
+            Gets(2, Some(3)),
+            Gets(3, None),
             Pops(1),
             Pushes(4),
-            Gets(0, 2),
+            Gets(0, Some(2)),
         ],
         &[2, 3, 4],
     )
@@ -136,12 +134,7 @@ fn limit_0_keeps_nothing(rt: HostRuntime) -> Result<(), Fail> {
     play_all(
         &rt,
         &mut q,
-        &[
-            Is(true, true),
-            HandsBack(1),
-            Overflows(2, 2),
-            GetsNothing(0),
-        ],
+        &[Is(true, true), HandsBack(1), Overflows(2, 2), Gets(0, None)],
     );
     Ok(())
 }

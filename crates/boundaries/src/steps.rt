@@ -6,7 +6,7 @@ use memory::data_segment::{Memory, Segmented, View};
 use std::process::Abort;
 
 // A distance in a segment.
-#[derive(Clone, Copy)]
+#[derive(Clone, Copy, PartialEq, Eq, Debug)]
 pub struct At(pub u32, pub u8);
 
 impl At {
@@ -15,7 +15,7 @@ impl At {
     }
 }
 
-#[derive(Clone, Copy)]
+#[derive(Clone, Copy, PartialEq, Eq, Debug)]
 pub enum Step {
     // A request of so many bytes gets this bucket.
     Gives(usize, At),

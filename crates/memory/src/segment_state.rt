@@ -74,7 +74,7 @@ impl SegmentState {
         ensures { IfOk result (λ s. s ≡ replicate segments (replicate buckets 0)) }
     {
         let mut rows = Vec::with_capacity(heap, segments)?;
-        // A plain count; the memory for all rows is there already.
+        // A plain count, with the memory for all rows there already: of rows collected in a chain no clause says what they are.
         for _ in 0..segments {
             rows.push_reserved(ReferenceCounts::new(heap, buckets)?);
         }

@@ -2,7 +2,7 @@
 
 use memory::data_segment::View;
 
-/// The view of a memory that has at most so many segments.
+/// What a port sees of a memory. The number is the memory's greatest number of segments: by it each memory names a kind of view of its own.
 #[derive(Clone, Copy, PartialEq, Eq, Debug)]
 pub struct DataSegmentView<const MAX_SEGMENTS: usize> {
     segments: usize,

@@ -48,7 +48,7 @@ fn three_spares(heap: Global, layout: SegmentLayout) -> Result<Vec<SpareSegment>
     ensures { IfOk result (λ v. Spares v.items layout.count × (vec_len v ≡ 3)) }
 {
     let mut spare = Vec::with_capacity(heap, 3)?;
-    // A plain count; the memory for all three is there already.
+    // A plain count, with the memory for all three there already: collected in a chain, their number alone is known.
     for _ in 0..3usize {
         spare.push_reserved(SpareSegment::new(heap, layout)?);
     }

@@ -29,7 +29,7 @@ pub(crate) fn check_request(
 }
 
 /// How many buckets of which size a segment has.
-#[derive(Clone, Copy)]
+#[derive(Clone, Copy, PartialEq, Eq, Debug)]
 pub(crate) struct SegmentLayout {
     pub(crate) bucket_size: usize,
     pub(crate) count: usize,

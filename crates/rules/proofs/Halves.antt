@@ -166,6 +166,7 @@ stir_cycles (e ∷ es) s p r t w =
     stir_trans (stir_enters s e w.0 w.1)
     (goes (stops (entry_fault s e)) w.2 (λ v. half_like w.0.links w.0 t v.1 (stir_refl w.0.links)) (λ v. stir_cycles es w.0 (first_of p (entry_fault s e)) r t v))
 
+-- by hand: a search finds it, and takes seconds longer
 stir_updates : (known : PortId → Bool) (s : Half) (n : ℕ) (es : List PublisherDetails) (r : Option UpdateError) (t : Half) → Updates known s n es r t → Stirred s.links t.links
 stir_updates known s n es r t w =
     goes (is_seen s.port.seen n) w (λ v. half_like s.links s t v.1 (stir_refl s.links))

@@ -139,6 +139,7 @@ emptied_slots loans hand (one r rest) k =
     record { order = b.order; passage = passage_trans a.passage b.passage }
 
 -- the history comes into hand
+-- by hand: a search finds it, and takes seconds longer
 pub history_in_hand : (loans hand : List PointerOffset) (p : Pub) (ps : Places) → Books loans hand p ps → Books loans (p.history ++ hand) (shut p) ps
 history_in_hand loans hand p ps k = record {
   ledger = k.ledger;
