@@ -1,9 +1,9 @@
 -- A send keeps a publisher in order.
-use Rattle.std.proofs.Common.{rules, arith, true, false, Bool, cond, ◌≡◌, ℕ, suc, ◌+◌, ◌<◌, ◌≤◌, eqb, List, [], ◌∷◌, ◌++◌, get_or, Some, None, Ok, Err, Option, Result, sym, refl, ap, ◌∙◌, subst}
+use Rattle.std.proofs.Common.{rules, arith, true, false, Bool, cond, ◌≡◌, ℕ, suc, ◌+◌, ◌<◌, ◌≤◌, eqb, List, [], ◌∷◌, ◌++◌, get_or, Some, None, Ok, Err, Option, Result, sym, refl, ap, ◌∙◌, subst, ⊎_elim}
 use Rattle.std.specs.Option.{option_to_list}
 use Rattle.std.proofs.lemmas.Bool.Decides.{nat_tests}
-use Rattle.std.proofs.lemmas.Bool.{cond-true, cond-false, false≢true}
-use Rattle.container.specs.Queue.{without, overflowed, evicted}
+use Rattle.std.proofs.lemmas.Bool.{cond-true, cond-false, false≢true, cases_Bool}
+use Rattle.container.specs.Queue.{has, without, overflowed, evicted}
 use Rattle.elementary.specs.Ids.{same_chunk}
 use Rattle.elementary.specs.declared.pointer_offset.PointerOffset.{PointerOffset}
 use Rattle.elementary.specs.declared.port_list.SubscriberDetails.{SubscriberDetails}
@@ -13,7 +13,7 @@ use Rattle.elementary.specs.declared.error.SendError.TheVariants as send
 use Rattle.rules.specs.Links.{times}
 use Rattle.rules.specs.Bank.{Goes, Places, sends, Turned, SafeBank}
 use Rattle.rules.specs.Publisher.{Connection, Pub, Side, slot_at, with_history, with_loans, hold, let_go, let_go_if, reclaimed_all, is_live, noted, Updates, Going, Verdict, Handler, judged, ended, with_links, Tries, tried, turned, Rounds, done, skipped, stopped, next, Delivers, spent, Posts, Sends}
-use Rattle.rules.specs.Books.{count_of, Books, InOrder}
+use Rattle.rules.specs.Books.{count_of, Books, InOrder, LeavesOrder, SendsKeepOrder}
 use Rattle.rules.proofs.Offsets.{one_self, times_cons, times_append, without_times, overflowed_times}
 use Rattle.rules.proofs.Keep.{holding, letting_go}
 use Rattle.rules.proofs.Holdings.{stir_turned}
@@ -246,3 +246,38 @@ sending_off f g o n es r h w live safe k = was (is_live g.port o) live w
         ((x : Option SendError) × ((m : Side) × ((k : Side) × Updates g n es x m × Posts f m o x r k × (h ≡ spent k o))))) ((r ≡ Err send.LoanNotLive) × (h ≡ g)) → SentOff g o h
     was true e v = open_or g.port.closed v
     was false e v = absurd (false≢true e)
+
+-- THE LAW
+
+-- the others see nothing of a course
+leaves : (g h : Side) → InOrder h.port.loans [] h → Course g h → SafeBank g.links → LeavesOrder g h
+leaves g h k c safe = record { order = k; bank = c.bank safe; others = λ p ne w. unmoved_order p.loans [] p g.links h.links (c.others p.id ne) w }
+
+-- what is not there is not taken out
+nothing_out : (xs : List PointerOffset) (o : PointerOffset) → has same_chunk xs o ≡ false → without same_chunk xs o ≡ xs
+nothing_out [] o e = refl
+nothing_out (x ∷ xs) o e = let i = nothing_out xs o in grind (rules, cases_Bool (same_chunk x o), i)
+
+-- a send of what is no live loan is none
+sent_nothing : (f : Handler) (g : Side) (o : PointerOffset) (n : ℕ) (es : List SubscriberDetails) (r : Result ℕ SendError) (h : Side) → Sends f g o n es r h
+    → is_live g.port o ≡ false → h ≡ g
+sent_nothing f g o n es r h w dead = go (is_live g.port o) _ dead w
+  where
+    go : (b : Bool) (A : Type 0) → b ≡ false → Goes b A ((r ≡ Err send.LoanNotLive) × (h ≡ g)) → h ≡ g
+    go false A e v = v.1
+    go true A e v = absurd (false≢true (sym e))
+
+pub sends_keep_order : SendsKeepOrder
+sends_keep_order = record {
+  updating = λ g n es f h w safe k.
+      let u = updating g.port.loans [] g n es f h w safe (λ o. search rules) k in
+      leaves g h (subst (λ x. InOrder x [] h) (sym u.passage.loans) u.order) u.passage.course safe;
+  sending = λ f g o n es r h w safe k. ⊎_elim
+      (λ live. let s = sending_off f g o n es r h w live safe k in leaves g h s.order s.course safe)
+      (λ dead. subst (LeavesOrder g) (sym (sent_nothing f g o n es r h w dead)) (leaves g g k (passage_refl g).course safe))
+      (cases_Bool (is_live g.port o));
+  ending = λ f g o n es r h w safe k. ⊎_elim
+      (λ live. let s = sending_off f g o n es r h w live safe k in (s.loans, s.course.bytes))
+      (λ dead. let e = sent_nothing f g o n es r h w dead in (ap (λ (x : Side). x.port.loans) e ∙ sym (nothing_out g.port.loans o dead), ap (λ (x : Side). x.port.bytes) e))
+      (cases_Bool (is_live g.port o));
+}

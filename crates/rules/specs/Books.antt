@@ -1,16 +1,19 @@
 -- A publisher's books: how the counts of its chunks stand to who holds them.
-use Rattle.std.specs.Prelude.{◌≡◌, ℕ, ◌+◌, ◌<◌, ◌≤◌, Bool, true, false, cond, ◌&&◌, List, ◌∷◌, length, Some, Ok, sum_by, Option, Result, nat_lt, slice_index}
-use Rattle.elementary.specs.Ids.{same_port}
+use Rattle.std.specs.Prelude.{◌≡◌, ℕ, ◌+◌, ◌<◌, ◌≤◌, Bool, true, false, cond, ◌&&◌, List, [], ◌∷◌, length, Some, Ok, sum_by, Option, Result, nat_lt, slice_index}
+use Rattle.container.specs.Queue.{without}
+use Rattle.elementary.specs.Ids.{same_port, same_chunk}
 use Rattle.elementary.specs.declared.port_id.PortId.{PortId}
 use Rattle.elementary.specs.declared.pointer_offset.PointerOffset.{PointerOffset}
 use Rattle.elementary.specs.declared.error.LoanError.{LoanError}
 use Rattle.elementary.specs.declared.error.CloseError.{CloseError}
+use Rattle.elementary.specs.declared.error.SendError.{SendError}
+use Rattle.elementary.specs.declared.port_list.SubscriberDetails.{SubscriberDetails}
 use Rattle.rules.specs.Memory.{Sound, segment_at, taken_at}
 use Rattle.rules.specs.Counts.{Chunks, counts_of, count_at}
 use Rattle.rules.specs.Pools.{by}
 use Rattle.rules.specs.Links.{Link, attached, listed, times}
-use Rattle.rules.specs.Bank.{Places, at, sends, SoundBank}
-use Rattle.rules.specs.Publisher.{Connection, Pub, Side, slot_at, hold, let_go, taken_up, reclaimed_all, Loans, Removes, begun, tag_slot, Sweeps, Closes, fill_after, return_after}
+use Rattle.rules.specs.Bank.{Places, at, sends, SoundBank, SafeBank}
+use Rattle.rules.specs.Publisher.{Connection, Pub, Side, slot_at, hold, let_go, taken_up, reclaimed_all, Loans, Removes, begun, tag_slot, Sweeps, Closes, fill_after, return_after, Updates, Handler, Sends}
 
 -- a link of a publisher bears its id, and its sender end is attached
 abbrev pub mine : PortId → Link → Bool
@@ -96,3 +99,22 @@ pub record CallsKeepOrder : Type 0 where
   pub returning : (hand : List PointerOffset) (g : Side) (o : PointerOffset) → InOrder g.port.loans hand g
       → InOrder (return_after g.port o).loans hand (beside g (return_after g.port o))
   pub closing : (hand : List PointerOffset) (g : Side) (r : Option CloseError) (h : Side) → Closes g r h → InOrder g.port.loans hand g → InOrder h.port.loans hand h
+
+-- WHOLE SENDS
+
+-- what a call of one publisher leaves: this one in order with nothing in hand, a safe bank, and every other publisher in order that was
+pub record LeavesOrder (g h : Side) : Type 0 where
+  pub order : InOrder h.port.loans [] h
+  pub bank : SafeBank h.links
+  pub others : (p : Pub) → same_port p.id g.port.id ≡ false → InOrder p.loans [] (record { port = p; links = g.links }) → InOrder p.loans [] (record { port = p; links = h.links })
+
+-- taking over a list, with the ends that it makes, the history that new links get and the links that it ends; and a whole send, whatever its
+-- handler answers and whatever its turns move
+pub record SendsKeepOrder : Type 0 where
+  pub updating : (g : Side) (n : ℕ) (es : List SubscriberDetails) (f : Option SendError) (h : Side) → Updates g n es f h
+      → SafeBank g.links → InOrder g.port.loans [] g → LeavesOrder g h
+  pub sending : (f : Handler) (g : Side) (o : PointerOffset) (n : ℕ) (es : List SubscriberDetails) (r : Result ℕ SendError) (h : Side) → Sends f g o n es r h
+      → SafeBank g.links → InOrder g.port.loans [] g → LeavesOrder g h
+  -- the loan ends, whatever is answered, and no byte changes
+  pub ending : (f : Handler) (g : Side) (o : PointerOffset) (n : ℕ) (es : List SubscriberDetails) (r : Result ℕ SendError) (h : Side) → Sends f g o n es r h
+      → SafeBank g.links → InOrder g.port.loans [] g → (h.port.loans ≡ without same_chunk g.port.loans o) × (h.port.bytes ≡ g.port.bytes)
