@@ -259,7 +259,7 @@ nothing_out [] o e = refl
 nothing_out (x ∷ xs) o e = let i = nothing_out xs o in grind (rules, cases_Bool (same_chunk x o), i)
 
 -- a send of what is no live loan is none
-sent_nothing : (f : Handler) (g : Side) (o : PointerOffset) (n : ℕ) (es : List SubscriberDetails) (r : Result ℕ SendError) (h : Side) → Sends f g o n es r h
+pub sent_nothing : (f : Handler) (g : Side) (o : PointerOffset) (n : ℕ) (es : List SubscriberDetails) (r : Result ℕ SendError) (h : Side) → Sends f g o n es r h
     → is_live g.port o ≡ false → h ≡ g
 sent_nothing f g o n es r h w dead = go (is_live g.port o) _ dead w
   where

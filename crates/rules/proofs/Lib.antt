@@ -20,3 +20,4 @@ pub mod Posts
 pub mod Connects
 pub mod Updates
 pub mod Delivers
+pub mod Steps

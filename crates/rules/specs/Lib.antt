@@ -10,4 +10,5 @@ pub mod Exchange
 pub mod Holdings
 pub mod Examples
 pub mod Books
+pub mod Sane
 pub mod Laws

@@ -6,3 +6,4 @@ pub mod book_laws;
 pub mod call;
 pub mod examples;
 pub mod memory_laws;
+pub mod run_laws;

@@ -1,0 +1,14 @@
+//! Laws of every call and of every run of an exchange, each a contract, so that the crate is proved only with its proof.
+ghost use Rattle.rules.specs.Sane.{StepsKeepOrder, CountsBalance};
+
+/// Whatever is called, on whichever port, and whatever is refused, the bank stays safe and every publisher in order; and so in a run,
+/// whatever its calls, their order and their number.
+pub fn steps_keep_order_stands()
+    ensures { StepsKeepOrder }
+{}
+
+/// After every call of every run from a new exchange, a chunk's count is its loans, its history entries and the links of its publisher that
+/// hold it; its bucket is taken exactly where that is not zero; a chunk on loan has no other holder; and no count passes 10.
+pub fn counts_balance_stands()
+    ensures { CountsBalance }
+{}
