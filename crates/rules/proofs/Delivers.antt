@@ -254,7 +254,7 @@ leaves : (g h : Side) → InOrder h.port.loans [] h → Course g h → SafeBank 
 leaves g h k c safe = record { order = k; bank = c.bank safe; others = λ p ne w. unmoved_order p.loans [] p g.links h.links (c.others p.id ne) w }
 
 -- what is not there is not taken out
-nothing_out : (xs : List PointerOffset) (o : PointerOffset) → has same_chunk xs o ≡ false → without same_chunk xs o ≡ xs
+pub nothing_out : (xs : List PointerOffset) (o : PointerOffset) → has same_chunk xs o ≡ false → without same_chunk xs o ≡ xs
 nothing_out [] o e = refl
 nothing_out (x ∷ xs) o e = let i = nothing_out xs o in grind (rules, cases_Bool (same_chunk x o), i)
 

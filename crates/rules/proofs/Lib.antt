@@ -21,3 +21,4 @@ pub mod Connects
 pub mod Updates
 pub mod Delivers
 pub mod Steps
+pub mod Stays

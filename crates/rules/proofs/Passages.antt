@@ -46,7 +46,7 @@ shape_marked m o t = record {
 shape_freed : (m : Mem) (o : ℕ) → SameShape m (freed m o)
 shape_freed m o = search (rules, shape_marked, shape_refl)
 
-shape_released : (c : Chunks) (o : ℕ) → SameShape c.mem (released c o).mem
+pub shape_released : (c : Chunks) (o : ℕ) → SameShape c.mem (released c o).mem
 shape_released c o = search (rules, shape_freed, shape_refl)
 
 -- a memory by its shape

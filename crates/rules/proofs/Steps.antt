@@ -1,5 +1,5 @@
 -- Every call of an exchange keeps every publisher in order.
-use Rattle.std.proofs.Common.{rules, arith, true, false, Bool, ◌≡◌, ℕ, suc, ◌+◌, ◌≤◌, List, [], ◌∷◌, length, replicate, get_or, slice_index, Some, None, Ok, Err, Option, Result, sym, refl, ap, ◌∙◌, subst, ⊎_elim, ◌⊎◌, inl, inr, vec_items, nat_lt}
+use Rattle.std.proofs.Common.{rules, arith, true, false, Bool, ◌≡◌, ℕ, suc, ◌+◌, ◌≤◌, List, [], ◌∷◌, length, replicate, get_or, slice_index, Some, None, Ok, Err, Option, Result, sym, refl, ap, ◌∙◌, subst, ⊎_elim, ◌⊎◌, inl, inr, vec_items, nat_lt, cond}
 use Rattle.std.proofs.lemmas.Bool.{cases_Bool, cases_lt, cond-true, cond-false, cond_both, false≢true}
 use Rattle.std.proofs.lemmas.List.{get_or-replicate, get_or_past, length-replicate}
 use Rattle.std.proofs.lemmas.Bool.Decides.{nat_tests}
@@ -48,9 +48,9 @@ use Rattle.rules.proofs.Delivers.{sending_off, sent_nothing}
 
 -- WHAT ONE PUBLISHER'S CALL LEAVES
 
-record Left (g h : Side) : Type 0 where
-  leaves : LeavesOrder g h
-  id : h.port.id ≡ g.port.id
+pub record Left (g h : Side) : Type 0 where
+  pub leaves : LeavesOrder g h
+  pub id : h.port.id ≡ g.port.id
 
 -- the links are those of a side that a course leads to
 left_at : (g m h : Side) → InOrder h.port.loans [] h → Course g m → h.links ≡ m.links → h.port.id ≡ g.port.id → SafeBank g.links → Left g h
@@ -66,12 +66,12 @@ left_at g m h k c e i safe = record {
 left_same : (g h : Side) → InOrder h.port.loans [] h → h.links ≡ g.links → h.port.id ≡ g.port.id → SafeBank g.links → Left g h
 left_same g h k e i safe = left_at g g h k (passage_refl g).course e i safe
 
-lent_beside : (m : Side) (a : Result PointerOffset AllocationError) (n : Mem) → ((lent m a n).port.id ≡ m.port.id) × ((lent m a n).links ≡ m.links)
+pub lent_beside : (m : Side) (a : Result PointerOffset AllocationError) (n : Mem) → ((lent m a n).port.id ≡ m.port.id) × ((lent m a n).links ≡ m.links)
 lent_beside m (Ok o) n = (refl, refl)
 lent_beside m (Err e) n = (refl, refl)
 
 -- a loan reclaims, and changes no link beyond
-loan_links : (g : Side) (asked align : ℕ) (r : Result PointerOffset LoanError) (h : Side) → Loans g asked align r h → InOrder g.port.loans [] g
+pub loan_links : (g : Side) (asked align : ℕ) (r : Result PointerOffset LoanError) (h : Side) → Loans g asked align r h → InOrder g.port.loans [] g
     → (h.port.id ≡ g.port.id) × ((h.links ≡ g.links) ⊎ (h.links ≡ (reclaimed_all g).links))
 loan_links g asked align r h l k =
     let i = (reclaiming_passes g.port.loans [] g k).course.id in
@@ -81,14 +81,14 @@ loan_links g asked align r h l k =
     (λ (a, (n, fault, allocates, answer, is)). let b = lent_beside (reclaimed_all g) a n in (ap (λ (x : Side). x.port.id) is ∙ (b.0 ∙ i), inr (ap (λ (x : Side). x.links) is ∙ b.1)))
     (λ full. (ap (λ (x : Side). x.port.id) full.1 ∙ i, inr (ap (λ (x : Side). x.links) full.1))))
 
-left_loan : (g : Side) (asked align : ℕ) (r : Result PointerOffset LoanError) (h : Side) → Loans g asked align r h → IsMemory h.port.chunks.mem
+pub left_loan : (g : Side) (asked align : ℕ) (r : Result PointerOffset LoanError) (h : Side) → Loans g asked align r h → IsMemory h.port.chunks.mem
     → SafeBank g.links → InOrder g.port.loans [] g → Left g h
 left_loan g asked align r h l m safe k =
     let o = loaning [] m.0 g asked align r h l m.1 k in
     let e = loan_links g asked align r h l k in
     ⊎_elim (λ same. left_same g h o same e.0 safe) (λ after. left_at g (reclaimed_all g) h o (reclaiming_passes g.port.loans [] g k).course after e.0 safe) e.1
 
-left_send : (f : Handler) (g : Side) (o : PointerOffset) (n : ℕ) (es : List SubscriberDetails) (r : Result ℕ SendError) (h : Side) → Sends f g o n es r h
+pub left_send : (f : Handler) (g : Side) (o : PointerOffset) (n : ℕ) (es : List SubscriberDetails) (r : Result ℕ SendError) (h : Side) → Sends f g o n es r h
     → SafeBank g.links → InOrder g.port.loans [] g → Left g h
 left_send f g o n es r h w safe k =
     ⊎_elim
@@ -96,7 +96,7 @@ left_send f g o n es r h w safe k =
     (λ dead. subst (Left g) (sym (sent_nothing f g o n es r h w dead)) (left_same g g k refl refl safe))
     (cases_Bool (is_live g.port o))
 
-left_close : (g : Side) (r : Option CloseError) (h : Side) → Closes g r h → SafeBank g.links → InOrder g.port.loans [] g → Left g h
+pub left_close : (g : Side) (r : Option CloseError) (h : Side) → Closes g r h → SafeBank g.links → InOrder g.port.loans [] g → Left g h
 left_close g r h c safe k =
     let o = closing [] g r h c k in
     goes g.port.closed c
@@ -106,7 +106,7 @@ left_close g r h c safe k =
 
 -- PORTS BY THEIR IDS
 
-pub_found : (id : PortId) (ps : List Pub) (p : Pub) → pub_of id ps ≡ Some p → same_port p.id id ≡ true
+pub pub_found : (id : PortId) (ps : List Pub) (p : Pub) → pub_of id ps ≡ Some p → same_port p.id id ≡ true
 pub_found id [] p e = absurd (let z : ◌≡◌ {A = ℕ} 0 1 = cc in omega arith)
 pub_found id (x ∷ xs) p e =
     ⊎_elim
@@ -114,7 +114,7 @@ pub_found id (x ∷ xs) p e =
     (λ no. pub_found id xs p (sym (cond-false _ _ _ no) ∙ e))
     (cases_Bool (same_port x.id id))
 
-pub_set : (id : PortId) (q : Pub) (ps : List Pub) (p : Pub) → pub_of id ps ≡ Some p → same_port q.id id ≡ true → pub_of id (with_pub id q ps) ≡ Some q
+pub pub_set : (id : PortId) (q : Pub) (ps : List Pub) (p : Pub) → pub_of id ps ≡ Some p → same_port q.id id ≡ true → pub_of id (with_pub id q ps) ≡ Some q
 pub_set id q [] p e s = absurd (let z : ◌≡◌ {A = ℕ} 0 1 = cc in omega arith)
 pub_set id q (x ∷ xs) p e s =
     ⊎_elim
@@ -132,14 +132,26 @@ apart_from x b a e f = grind (rules, nat_tests)
 apart_from' : (x b a : PortId) → same_port x a ≡ true → same_port x b ≡ false → same_port a b ≡ false
 apart_from' x b a e f = grind (rules, nat_tests)
 
-pub_changed : (id a : PortId) (q : Pub) (ps : List Pub) (r : Pub) → same_port q.id id ≡ true → pub_of a (with_pub id q ps) ≡ Some r
-    → (r ≡ q) ⊎ ((same_port a id ≡ false) × (pub_of a ps ≡ Some r))
+both_same : (x b a : PortId) → same_port x b ≡ true → same_port x a ≡ true → same_port a b ≡ true
+both_same x b a e f = grind (rules, nat_tests)
+
+-- one id finds what the other does
+pub pub_same : (a id : PortId) (ps : List Pub) → same_port a id ≡ true → pub_of a ps ≡ pub_of id ps
+pub_same a id [] e = refl
+pub_same a id (x ∷ xs) e =
+    ap (λ b. cond b (Some x) (pub_of a xs)) (same_other x.id a id e) ∙ ap (cond (same_port x.id id) (Some x)) (pub_same a id xs e)
+  where
+    same_other : (y b c : PortId) → same_port b c ≡ true → same_port y b ≡ same_port y c
+    same_other y b c f = grind (rules, nat_tests)
+
+pub pub_changed : (id a : PortId) (q : Pub) (ps : List Pub) (r : Pub) → same_port q.id id ≡ true → pub_of a (with_pub id q ps) ≡ Some r
+    → ((same_port a id ≡ true) × (r ≡ q)) ⊎ ((same_port a id ≡ false) × (pub_of a ps ≡ Some r))
 pub_changed id a q [] r s e = absurd (let z : ◌≡◌ {A = ℕ} 0 1 = cc in omega arith)
 pub_changed id a q (x ∷ xs) r s e =
     ⊎_elim
     (λ yes. let f = sym (ap (pub_of a) (cond-true _ _ _ yes)) ∙ e in
     ⊎_elim
-    (λ here. inl (let z : ◌≡◌ {A = Option Pub} (Some q) (Some r) = sym (cond-true _ _ _ here) ∙ f in cc))
+    (λ here. inl (both_same q.id id a s here, let z : ◌≡◌ {A = Option Pub} (Some q) (Some r) = sym (cond-true _ _ _ here) ∙ f in cc))
     (λ past. inr (apart_from q.id id a s past, cond-false _ _ _ (same_id x.id q.id id a yes s ∙ past) ∙ (sym (cond-false _ _ _ past) ∙ f)))
     (cases_Bool (same_port q.id a)))
     (λ no. let f = sym (ap (pub_of a) (cond-false _ _ _ no)) ∙ e in
@@ -161,7 +173,7 @@ after_sane s id p h e l n =
     record {
       bank = l.leaves.bank;
       order = λ a r f. ⊎_elim
-          (λ is. subst (λ (q : Pub). InOrder q.loans [] (record { port = q; links = h.links })) (sym is) l.leaves.order)
+          (λ is. subst (λ (q : Pub). InOrder q.loans [] (record { port = q; links = h.links })) (sym is.1) l.leaves.order)
           (λ other. let found = pub_found a s.pubs r other.1 in
           let ne = others_apart r.id a p.id id found own other.0 in
           l.leaves.others r ne (n.order a r other.1))
@@ -204,10 +216,10 @@ either : {A B C D : Type 0} (b : Bool) → Goes b A B → (A → C) → (B → D
 either true v f g = f v
 either false v f g = g v
 
-returned_id : (p : Pub) (o : PointerOffset) → (return_after p o).id ≡ p.id
+pub returned_id : (p : Pub) (o : PointerOffset) → (return_after p o).id ≡ p.id
 returned_id p o = search rules
 
-sane_step : (s : State) (c : Call) (a : Answer) (t : State) → Step s c a t → Memories t → Sane s → Sane t
+pub sane_step : (s : State) (c : Call) (a : Answer) (t : State) → Step s c a t → Memories t → Sane s → Sane t
 sane_step s (Loan id size align) a t w m n =
     at_pub s id (λ g h. (r : Result PointerOffset LoanError) × Loans g size align r h × (a ≡ told_loan r)) a t w n
     (λ p h e v is.
@@ -259,7 +271,7 @@ sane_step s (SetMark i k) a t w m n =
     (λ same. subst Sane (sym same) n)
 sane_step s (SetPace i k) a t w m n = subst Sane (sym w.1) n
 
-sane_story : (s : State) (ms : List Moment) (t : State) → Story s ms t → All (λ m. Memories m.after) ms → Sane s → Sane t
+pub sane_story : (s : State) (ms : List Moment) (t : State) → Story s ms t → All (λ m. Memories m.after) ms → Sane s → Sane t
 sane_story s [] t w m n = subst Sane (sym w) n
 sane_story s (x ∷ xs) t w m n =
     let before = sane_story s xs x.before w.2 (λ k d lt. m (suc k) d (omega (arith, lt))) n in

@@ -1,13 +1,18 @@
--- An exchange in which every publisher is in order, as every call keeps it.
-use Rattle.std.specs.Prelude.{◌≡◌, ℕ, ◌+◌, ◌<◌, ◌≤◌, List, [], Some, nat_lt}
+-- An exchange in which every publisher is in order, as every call keeps it, and what follows of every run.
+use Rattle.std.specs.Prelude.{◌≡◌, ℕ, ◌+◌, ◌<◌, ◌≤◌, List, [], true, Some, Vec, nat_lt}
 use Rattle.std.specs.List.{All}
 use Rattle.elementary.specs.declared.port_id.PortId.{PortId}
 use Rattle.rules.specs.declared.call.Call.{Call}
+use Rattle.rules.specs.declared.call.Call.TheVariants.{Send}
+use Rattle.elementary.specs.declared.pointer_offset.PointerOffset.{PointerOffset}
+use Rattle.elementary.specs.declared.port_list.SubscriberDetails.{SubscriberDetails}
+use Rattle.std.specs.declared.alloc.Global.{Global}
 use Rattle.rules.specs.declared.call.Answer.{Answer}
 use Rattle.rules.specs.Memory.{IsMemory, taken_at}
 use Rattle.rules.specs.Links.{times}
+use Rattle.rules.specs.Bytes.{payload}
 use Rattle.rules.specs.Bank.{Places, SafeBank}
-use Rattle.rules.specs.Publisher.{Pub}
+use Rattle.rules.specs.Publisher.{Pub, is_live}
 use Rattle.rules.specs.Books.{Ledger, InOrder, count_of, held_by}
 use Rattle.rules.specs.Exchange.{State, Moment, pub_of, side_of, Step, Story, New}
 
@@ -46,3 +51,27 @@ pub record Balanced (p : Pub) (ps : Places) : Type 0 where
 pub record CountsBalance : Type 0 where
   pub balance : (s : State) (ms : List Moment) (t : State) → New s → SetUp s → Story s ms t → All (λ m. Memories m.after) ms
       → (id : PortId) (p : Pub) → pub_of id t.pubs ≡ Some p → Balanced p t.links
+
+-- SENT BYTES STAY
+
+-- a chunk that a link of its publisher holds, and that is on no loan
+pub record Out (p : Pub) (ps : Places) (o : ℕ) : Type 0 where
+  pub lent : times p.loans o ≡ 0
+  pub held : 0 < held_by p.id ps o
+
+-- what a reading of a publisher's chunk would hand out
+abbrev pub shown : Pub → ℕ → List ℕ
+shown p o = payload p.chunks.mem p.bytes o
+
+-- some link holds it in that state
+abbrev pub HeldIn : PortId → ℕ → State → Type 0
+HeldIn id o s = (p : Pub) → pub_of id s.pubs ≡ Some p → 0 < held_by p.id s.links o
+
+pub record SentBytesStay : Type 0 where
+  -- a send ends its loan, so that the chunk is on none, and shows what it showed as the send began
+  pub sent : (s : State) (id : PortId) (x : PointerOffset) (n : ℕ) (list : Vec SubscriberDetails Global) (a : Answer) (t : State) → Step s (Send id x n list) a t → Sane s
+      → (p q : Pub) → pub_of id s.pubs ≡ Some p → is_live p x ≡ true → pub_of id t.pubs ≡ Some q → (times q.loans x.value ≡ 0) × (shown q x.value ≡ shown p x.value)
+  -- as long as a link holds it, whatever is called, it is lent to no one and shows the same bytes
+  pub stay : (s : State) (ms : List Moment) (t : State) → Story s ms t → Memories s → All (λ m. Memories m.after) ms → Sane s
+      → (id : PortId) (p : Pub) (o : ℕ) → pub_of id s.pubs ≡ Some p → Out p s.links o → All (λ m. HeldIn id o m.after) ms
+      → (q : Pub) → pub_of id t.pubs ≡ Some q → Out q t.links o × (shown q o ≡ shown p o)

@@ -1,5 +1,5 @@
 //! Laws of every call and of every run of an exchange, each a contract, so that the crate is proved only with its proof.
-ghost use Rattle.rules.specs.Sane.{StepsKeepOrder, CountsBalance};
+ghost use Rattle.rules.specs.Sane.{StepsKeepOrder, CountsBalance, SentBytesStay};
 
 /// Whatever is called, on whichever port, and whatever is refused, the bank stays safe and every publisher in order; and so in a run,
 /// whatever its calls, their order and their number.
@@ -11,4 +11,10 @@ pub fn steps_keep_order_stands()
 /// hold it; its bucket is taken exactly where that is not zero; a chunk on loan has no other holder; and no count passes 10.
 pub fn counts_balance_stands()
     ensures { CountsBalance }
+{}
+
+/// A chunk shows, when its send ends, what it showed as the send began; and as long as a link holds it, whatever is called, it is lent to no
+/// one and shows the same bytes.
+pub fn sent_bytes_stay_stands()
+    ensures { SentBytesStay }
 {}
