@@ -108,6 +108,7 @@ join_passes g i c d l within f safe small limit = record {
     fewer = λ o h. h;
     bank = safe;
     fits = fits;
+    recent = λ r. r;
     others = λ a ne. unmoved_set a ps q (Some l) (foreign a (at ps q) (Some l) (f.was a) (not_mine a g.port.id l ne (and_parts (attached l.sender_end) _ f.now).1));
   };
   loans = refl;

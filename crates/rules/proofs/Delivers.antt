@@ -14,7 +14,7 @@ use Rattle.rules.specs.Links.{times}
 use Rattle.rules.specs.Bank.{Goes, Places, sends, Turned, SafeBank}
 use Rattle.rules.specs.Publisher.{Connection, Pub, Side, slot_at, with_history, with_loans, hold, let_go, let_go_if, reclaimed_all, is_live, noted, Updates, Going, Verdict, Handler, judged, ended, with_links, Tries, tried, turned, Rounds, done, skipped, stopped, next, Delivers, spent, Posts, Sends}
 use Rattle.rules.specs.Books.{count_of, Books, InOrder, LeavesOrder, SendsKeepOrder}
-use Rattle.rules.proofs.Offsets.{one_self, times_cons, times_append, without_times, overflowed_times}
+use Rattle.rules.proofs.Offsets.{one_self, times_cons, times_append, without_times, overflowed_times, overflowed_length}
 use Rattle.rules.proofs.Keep.{holding, letting_go}
 use Rattle.rules.proofs.Holdings.{stir_turned}
 use Rattle.rules.proofs.Views.{unmoved_held, unmoved_order}
@@ -156,7 +156,7 @@ noting loans hand g o some few lent absent k = go (eqb p.settings.history_size 0
     go true is = record { order = k; course = (passage_refl g).course; loans_same = refl; closed = refl; history = sym (cond-true _ _ _ is) }
     go false is = record {
       order = record { books = evict loans hand ps e q books; wired = rewired p (let_go_if q e) ps passage.course.id (if_slots q e) k.wired };
-      course = course_trans (passage_hold loans hand ps o p k.books some few).course (course_trans (course_lists (hold p o) ps p.loans l p.closed) passage.course);
+      course = course_trans (passage_hold loans hand ps o p k.books some few).course (course_trans (course_lists (hold p o) ps p.loans l p.closed (overflowed_length n p.history o)) passage.course);
       loans_same = passage.loans;
       closed = passage.closed;
       history = if_history q e ∙ sym (cond-false _ _ _ is);
@@ -203,7 +203,7 @@ spending g k o loans closed c w =
         books = letting_go l [] q k.links o books;
         wired = rewired p (let_go q o) k.links refl refl w.wired;
       });
-      course = course_trans c (course_trans (course_lists p k.links (without same_chunk p.loans o) p.history p.closed) (passage_let_go l [] k.links o q books).course);
+      course = course_trans c (course_trans (course_lists p k.links (without same_chunk p.loans o) p.history p.closed (λ r. r)) (passage_let_go l [] k.links o q books).course);
       loans = same;
       closed = closed;
     }

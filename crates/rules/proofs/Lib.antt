@@ -22,3 +22,4 @@ pub mod Updates
 pub mod Delivers
 pub mod Steps
 pub mod Stays
+pub mod Sure

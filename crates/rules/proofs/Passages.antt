@@ -85,6 +85,10 @@ abbrev pub Fits : Pub → Places → Type 0
 Fits p ps = (i : ℕ) (d : LinkDetails) → own_details p.id (at ps i) ≡ Some d
     → (d.buffer_size ≤ p.settings.subscriber_max_buffer_size) × (d.max_borrowed_samples ≡ p.settings.subscriber_max_borrowed_samples)
 
+-- and no more in its history than its settings say
+abbrev pub Recent : Pub → Type 0
+Recent p = length p.history ≤ p.settings.history_size
+
 pub record Course (g h : Side) : Type 0 where
   pub id : h.port.id ≡ g.port.id
   pub settings : h.port.settings ≡ g.port.settings
@@ -95,6 +99,7 @@ pub record Course (g h : Side) : Type 0 where
   pub fewer : (o : ℕ) → 0 < count_of h.port o → 0 < count_of g.port o
   pub bank : SafeBank g.links → SafeBank h.links
   pub fits : Fits g.port g.links → Fits h.port h.links
+  pub recent : Recent g.port → Recent h.port
   -- no other publisher sees any of it
   pub others : (a : PortId) → same_port a g.port.id ≡ false → Unmoved a g.links h.links
 
@@ -108,8 +113,18 @@ course_trans {g} {m} {h} a b = record {
   fewer = λ o p. a.fewer o (b.fewer o p);
   bank = λ s. b.bank (a.bank s);
   fits = λ f. b.fits (a.fits f);
+  recent = λ r. b.recent (a.recent r);
   others = λ x ne. unmoved_trans (a.others x ne) (b.others x (ap (same_port x) a.id ∙ ne));
 }
+
+-- as every publisher stays by its settings
+pub record Snug (p : Pub) (ps : Places) : Type 0 where
+  pub fits : Fits p ps
+  pub recent : Recent p
+  pub slots : length p.slots ≡ p.settings.max_subscribers
+
+pub snug_course : {g h : Side} → Course g h → Snug g.port g.links → Snug h.port h.links
+snug_course c k = record { fits = c.fits k.fits; recent = c.recent k.recent; slots = c.slots ∙ (k.slots ∙ ap (λ t. t.max_subscribers) (sym c.settings)) }
 
 -- A PASSAGE: a course that leaves loans and history
 
@@ -132,8 +147,9 @@ passage_refl g = passage_links g.port g.links g.links (λ s. s) (λ f. f) (λ a 
 
 -- another history, other loans, open or closed
 pub course_lists : (p : Pub) (ps : Places) (loans history : List PointerOffset) (closed : Bool)
+    → (Recent p → length history ≤ p.settings.history_size)
     → Course (record { port = p; links = ps }) (record { port = record { id = p.id; settings = p.settings; chunks = p.chunks; bytes = p.bytes; loans = loans; history = history; slots = p.slots; cycle = p.cycle; seen = p.seen; closed = closed }; links = ps })
-course_lists p ps loans history closed = search rules
+course_lists p ps loans history closed short = search rules
 
 -- LETTING GO
 
@@ -174,3 +190,6 @@ passage_hold loans hand ps o p k some few =
 
 pub fits_unmoved : (p : Pub) (ps qs : Places) → ((i : ℕ) → own_details p.id (at qs i) ≡ own_details p.id (at ps i)) → Fits p ps → Fits p qs
 fits_unmoved p ps qs same f i d e = f i d (sym (same i) ∙ e)
+
+pub snug_unmoved : (p : Pub) (ps qs : Places) → Unmoved p.id ps qs → Snug p ps → Snug p qs
+snug_unmoved p ps qs u k = record { fits = fits_unmoved p ps qs (λ i. (u.alike i).details) k.fits; recent = k.recent; slots = k.slots }

@@ -98,7 +98,7 @@ one_post loans hand g i o e own takes some few lent k =
 -- HOW MANY MAY HOLD ONE CHUNK
 
 -- how often a slot's link holds a chunk
-abbrev slot_holds : PortId → ℕ → Places → Option Connection → ℕ
+abbrev pub slot_holds : PortId → ℕ → Places → Option Connection → ℕ
 slot_holds id o ps x = by x 0 (λ c. held_here id o (at ps c.place))
 
 nothing_owned : (id : PortId) (o : ℕ) (ps : Places) → ((j : ℕ) → owns id (at ps j) ≡ true → ⊥) → held_by id ps o ≤ 0
@@ -122,7 +122,7 @@ emptied_less id o ps i xs = sum_by-le-sum_by (slot_holds id o (set ps i None)) (
     here y = search (rules, none_there, get_or-set_other)
 
 -- all that hold a chunk are links of slots
-slots_hold : (id : PortId) (o : ℕ) (xs : List (Option Connection)) (ps : Places)
+pub slots_hold : (id : PortId) (o : ℕ) (xs : List (Option Connection)) (ps : Places)
     → ((j : ℕ) → owns id (at ps j) ≡ true → (i : ℕ) × ((c : Connection) × (get_or xs i None ≡ Some c) × (c.place ≡ j)))
     → held_by id ps o ≤ sum_by (slot_holds id o ps) xs
 slots_hold id o [] ps cover = nothing_owned id o ps (λ j e. let f = cover j e in none-some f.1.0 f.1.1)

@@ -37,7 +37,7 @@ use Rattle.rules.specs.declared.call.Answer.TheVariants.{NoSuchPort}
 use Rattle.rules.specs.Subscriber.{Sub, Half}
 use Rattle.rules.specs.Exchange.{State, Moment, Story, pub_of, sub_of, side_of, after_pub, after_sub, may_set, told_send, Step}
 use Rattle.rules.specs.Sane.{Memories, Sane, Out, HeldIn, shown, SentBytesStay}
-use Rattle.rules.proofs.Steps.{lent_beside, pub_found, pub_set, pub_same, pub_changed, loan_links, left_send, left_close, returned_id, sane_story}
+use Rattle.rules.proofs.Steps.{lent_beside, pub_found, pub_set, pub_same, pub_changed, loan_id, left_send, left_close, returned_id, sane_story}
 use Rattle.rules.proofs.Delivers.{sending_off, sent_nothing, nothing_out}
 use Rattle.rules.specs.Bytes.{overwritten, part, place, room, filled, payload}
 use Rattle.rules.proofs.Chunks.{chunk_there, within_capacity, no_byte_shared}
@@ -198,7 +198,7 @@ shows_loan g asked align r h o l k =
 abbrev Stays : State → State → PortId → Pub → ℕ → Type 0
 Stays s t id p o = (q : Pub) → pub_of id t.pubs ≡ Some q → Out q t.links o × (shown q o ≡ shown p o)
 
-some_same : (x y : Pub) → ◌≡◌ {A = Option Pub} (Some x) (Some y) → x ≡ y
+pub some_same : (x y : Pub) → ◌≡◌ {A = Option Pub} (Some x) (Some y) → x ≡ y
 some_same x y e = cc
 
 -- where the publisher's record stays
@@ -244,7 +244,7 @@ stays_step : (s : State) (c : Call) (a : Answer) (t : State) → Step s c a t �
     → HeldIn id o t → Stays s t id p o
 stays_step s (Loan i size align) a t w m n id p o f out held =
     stays_at s i _ a t w id p o f out held (λ x h e b is.
-    let k = n.order i x e in ((loan_links (side_of s x) size align b.0 h b.1 k).0, shows_loan (side_of s x) size align b.0 h o b.1 k))
+    let k = n.order i x e in (loan_id (side_of s x) size align b.0 h b.1 k, shows_loan (side_of s x) size align b.0 h o b.1 k))
 stays_step s (Fill i y bytes) a t w m n id p o f out held =
     stays_at s i _ a t w id p o f out held (λ x h e b is.
     let g = side_of s x in
@@ -285,7 +285,7 @@ came_at s i B a t w l id q g = go (pub_of i s.pubs) refl w
         (pub_changed i id h.port s.pubs q (ap (λ z. same_port z i) (l x h e b) ∙ pub_found i s.pubs x e) (sym (ap (λ (z : State). pub_of id z.pubs) is) ∙ g))
 
 came : (s : State) (c : Call) (a : Answer) (t : State) → Step s c a t → Sane s → (id : PortId) (q : Pub) → pub_of id t.pubs ≡ Some q → (r : Pub) × (pub_of id s.pubs ≡ Some r)
-came s (Loan i size align) a t w n id q g = came_at s i _ a t w (λ x h e b. (loan_links (side_of s x) size align b.0 h b.1 (n.order i x e)).0) id q g
+came s (Loan i size align) a t w n id q g = came_at s i _ a t w (λ x h e b. loan_id (side_of s x) size align b.0 h b.1 (n.order i x e)) id q g
 came s (Fill i y bytes) a t w n id q g = came_at s i _ a t w (λ x h e b. ap (λ (z : Side). z.port.id) b.0) id q g
 came s (Send i y k list) a t w n id q g = came_at s i _ a t w (λ x h e b. (left_send (s.handlers i) (side_of s x) y k (vec_items list) b.0 h b.1 n.bank (n.order i x e)).id) id q g
 came s (Return i y) a t w n id q g = came_at s i _ a t w (λ x h e b. ap (λ (z : Side). z.port.id) b.0 ∙ returned_id x y) id q g
@@ -300,7 +300,7 @@ came s (SetPace i k) a t w n id q g = (q, sym (ap (λ (z : State). pub_of id z.p
 
 -- A RUN
 
-memories_before : (s : State) (ms : List Moment) (t : State) → Story s ms t → Memories s → All (λ m. Memories m.after) ms → Memories t
+pub memories_before : (s : State) (ms : List Moment) (t : State) → Story s ms t → Memories s → All (λ m. Memories m.after) ms → Memories t
 memories_before s [] t w m all = subst Memories (sym w) m
 memories_before s (x ∷ xs) t w m all = subst Memories (sym w.0) (all 0 x (omega arith))
 

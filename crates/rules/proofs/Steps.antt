@@ -20,6 +20,7 @@ use Rattle.rules.specs.declared.call.Call.TheVariants.{Loan, Fill, Send, Return,
 use Rattle.rules.specs.declared.call.Answer.{Answer}
 use Rattle.rules.specs.declared.call.Answer.TheVariants.{NoSuchPort, Done}
 use Rattle.elementary.specs.declared.link.Mark.{Mark}
+use Rattle.elementary.specs.declared.link.LinkDetails.{LinkDetails}
 use Rattle.rules.specs.Memory.{Mem, IsMemory, is_chunk, bucket}
 use Rattle.rules.specs.Counts.{counts_of}
 use Rattle.elementary.specs.Ids.{segment}
@@ -27,7 +28,7 @@ use Rattle.elementary.specs.Settings.{publisher_in_range}
 use Rattle.elementary.specs.declared.settings.PublisherSettings.{PublisherSettings}
 use Rattle.elementary.specs.declared.error.AllocationError.{AllocationError}
 use Rattle.rules.specs.Bank.{at, Goes, Places, changed, with_mark, SetsMark, SafeBank}
-use Rattle.rules.specs.Publisher.{Connection, slot_at, lent, shut, Pub, Side, Handler, reclaimed_all, may_loan, is_live, Loans, Sends, Closes, fill_after, fill_refusal, return_after, return_refusal}
+use Rattle.rules.specs.Publisher.{Connection, slot_at, lent, shut, let_go_all, unloaned, Pub, Side, Handler, reclaimed_all, may_loan, is_live, Loans, Sends, Closes, fill_after, fill_refusal, return_after, return_refusal}
 use Rattle.rules.specs.Subscriber.{Sub, Half, Updates, receive_after, receive_answer, release_after, release_fault, closed}
 use Rattle.rules.specs.Holdings.{Stirred}
 use Rattle.rules.specs.Books.{InOrder, beside, LeavesOrder, held_here, held_by, count_of, owns, Ledger}
@@ -38,10 +39,10 @@ use Rattle.rules.proofs.Safe.{safe_marked}
 use Rattle.rules.proofs.Holdings.{stir_refl}
 use Rattle.rules.proofs.Halves.{only_stirred}
 use Rattle.rules.proofs.Views.{sum_alike, own_details, Unmoved, kept_by, unmoved_held, unmoved_order}
-use Rattle.rules.proofs.Passages.{Course, passage_refl}
+use Rattle.rules.proofs.Passages.{Course, passage_refl, passage_all, Snug, snug_course, snug_unmoved}
 use Rattle.rules.proofs.Reclaims.{reclaiming_passes, all_id}
 use Rattle.rules.proofs.Lends.{loaning}
-use Rattle.rules.proofs.Removes.{emptied_slots, closing}
+use Rattle.rules.proofs.Removes.{emptied_slots, history_in_hand, closing}
 use Rattle.rules.proofs.Posts.{calls_keep_order, held_few}
 use Rattle.rules.specs.Links.{Link, times}
 use Rattle.rules.proofs.Delivers.{sending_off, sent_nothing}
@@ -51,58 +52,80 @@ use Rattle.rules.proofs.Delivers.{sending_off, sent_nothing}
 pub record Left (g h : Side) : Type 0 where
   pub leaves : LeavesOrder g h
   pub id : h.port.id ≡ g.port.id
+  pub snug : Snug g.port g.links → Snug h.port h.links
+  pub others : (a : PortId) → same_port a g.port.id ≡ false → Unmoved a g.links h.links
 
 -- the links are those of a side that a course leads to
-left_at : (g m h : Side) → InOrder h.port.loans [] h → Course g m → h.links ≡ m.links → h.port.id ≡ g.port.id → SafeBank g.links → Left g h
-left_at g m h k c e i safe = record {
+left_at : (g m h : Side) → InOrder h.port.loans [] h → Course g m → h.links ≡ m.links → h.port.id ≡ g.port.id → (Snug m.port m.links → Snug h.port h.links) → SafeBank g.links → Left g h
+left_at g m h k c e i snug safe = record {
   leaves = record {
     order = k;
     bank = subst SafeBank (sym e) (c.bank safe);
     others = λ p ne w. subst (λ ls. InOrder p.loans [] (record { port = p; links = ls })) (sym e) (unmoved_order p.loans [] p g.links m.links (c.others p.id ne) w);
   };
   id = i;
+  snug = λ s. snug (snug_course c s);
+  others = λ a ne. subst (Unmoved a g.links) (sym e) (c.others a ne);
 }
 
-left_same : (g h : Side) → InOrder h.port.loans [] h → h.links ≡ g.links → h.port.id ≡ g.port.id → SafeBank g.links → Left g h
-left_same g h k e i safe = left_at g g h k (passage_refl g).course e i safe
+left_same : (g h : Side) → InOrder h.port.loans [] h → h.links ≡ g.links → h.port.id ≡ g.port.id → (Snug g.port g.links → Snug h.port h.links) → SafeBank g.links → Left g h
+left_same g h k e i snug safe = left_at g g h k (passage_refl g).course e i snug safe
+
+left_still : (g h : Side) → h ≡ g → SafeBank g.links → InOrder g.port.loans [] g → Left g h
+left_still g h same safe k = subst (Left g) (sym same) (left_same g g k refl refl (λ s. s) safe)
 
 pub lent_beside : (m : Side) (a : Result PointerOffset AllocationError) (n : Mem) → ((lent m a n).port.id ≡ m.port.id) × ((lent m a n).links ≡ m.links)
 lent_beside m (Ok o) n = (refl, refl)
 lent_beside m (Err e) n = (refl, refl)
 
--- a loan reclaims, and changes no link beyond
-pub loan_links : (g : Side) (asked align : ℕ) (r : Result PointerOffset LoanError) (h : Side) → Loans g asked align r h → InOrder g.port.loans [] g
-    → (h.port.id ≡ g.port.id) × ((h.links ≡ g.links) ⊎ (h.links ≡ (reclaimed_all g).links))
-loan_links g asked align r h l k =
+snug_lent : (m : Side) (a : Result PointerOffset AllocationError) (n : Mem) → Snug m.port m.links → Snug (lent m a n).port (lent m a n).links
+snug_lent m (Ok o) n k = record { fits = k.fits; recent = k.recent; slots = k.slots }
+snug_lent m (Err e) n k = k
+
+pub loan_id : (g : Side) (asked align : ℕ) (r : Result PointerOffset LoanError) (h : Side) → Loans g asked align r h → InOrder g.port.loans [] g → h.port.id ≡ g.port.id
+loan_id g asked align r h l k =
     let i = (reclaiming_passes g.port.loans [] g k).course.id in
     goes g.port.closed l
-    (λ before. (ap (λ (x : Side). x.port.id) before.1, inl (ap (λ (x : Side). x.links) before.1)))
+    (λ before. ap (λ (x : Side). x.port.id) before.1)
     (λ ready. goes (may_loan g.port) ready
-    (λ (a, (n, fault, allocates, answer, is)). let b = lent_beside (reclaimed_all g) a n in (ap (λ (x : Side). x.port.id) is ∙ (b.0 ∙ i), inr (ap (λ (x : Side). x.links) is ∙ b.1)))
-    (λ full. (ap (λ (x : Side). x.port.id) full.1 ∙ i, inr (ap (λ (x : Side). x.links) full.1))))
+    (λ (a, (n, fault, allocates, answer, is)). ap (λ (x : Side). x.port.id) is ∙ ((lent_beside (reclaimed_all g) a n).0 ∙ i))
+    (λ full. ap (λ (x : Side). x.port.id) full.1 ∙ i))
 
 pub left_loan : (g : Side) (asked align : ℕ) (r : Result PointerOffset LoanError) (h : Side) → Loans g asked align r h → IsMemory h.port.chunks.mem
     → SafeBank g.links → InOrder g.port.loans [] g → Left g h
 left_loan g asked align r h l m safe k =
     let o = loaning [] m.0 g asked align r h l m.1 k in
-    let e = loan_links g asked align r h l k in
-    ⊎_elim (λ same. left_same g h o same e.0 safe) (λ after. left_at g (reclaimed_all g) h o (reclaiming_passes g.port.loans [] g k).course after e.0 safe) e.1
+    let c = (reclaiming_passes g.port.loans [] g k).course in
+    goes g.port.closed l
+    (λ before. left_still g h before.1 safe k)
+    (λ ready. goes (may_loan g.port) ready
+    (λ (a, (n, fault, allocates, answer, is)). let b = lent_beside (reclaimed_all g) a n in
+    left_at g (reclaimed_all g) h o c (ap (λ (x : Side). x.links) is ∙ b.1) (ap (λ (x : Side). x.port.id) is ∙ (b.0 ∙ c.id))
+    (λ s. subst (λ (x : Side). Snug x.port x.links) (sym is) (snug_lent (reclaimed_all g) a n s)) safe)
+    (λ full. left_at g (reclaimed_all g) h o c (ap (λ (x : Side). x.links) full.1) (ap (λ (x : Side). x.port.id) full.1 ∙ c.id)
+    (λ s. subst (λ (x : Side). Snug x.port x.links) (sym full.1) s) safe))
 
 pub left_send : (f : Handler) (g : Side) (o : PointerOffset) (n : ℕ) (es : List SubscriberDetails) (r : Result ℕ SendError) (h : Side) → Sends f g o n es r h
     → SafeBank g.links → InOrder g.port.loans [] g → Left g h
 left_send f g o n es r h w safe k =
     ⊎_elim
-    (λ live. let s = sending_off f g o n es r h w live safe k in left_at g h h s.order s.course refl s.course.id safe)
-    (λ dead. subst (Left g) (sym (sent_nothing f g o n es r h w dead)) (left_same g g k refl refl safe))
+    (λ live. let s = sending_off f g o n es r h w live safe k in left_at g h h s.order s.course refl s.course.id (λ x. x) safe)
+    (λ dead. left_still g h (sent_nothing f g o n es r h w dead) safe k)
     (cases_Bool (is_live g.port o))
+
+snug_shut : (loans : List PointerOffset) (m : Side) → InOrder loans [] m → Snug m.port m.links → Snug (let_go_all (shut m.port) m.port.history) m.links
+snug_shut loans m k s =
+    snug_course (passage_all loans [] m.links m.port.history (shut m.port) (history_in_hand loans [] m.port m.links k.books)).course
+    (record { fits = s.fits; recent = omega arith; slots = s.slots })
 
 pub left_close : (g : Side) (r : Option CloseError) (h : Side) → Closes g r h → SafeBank g.links → InOrder g.port.loans [] g → Left g h
 left_close g r h c safe k =
     let o = closing [] g r h c k in
     goes g.port.closed c
-    (λ before. left_same g h o (ap (λ (x : Side). x.links) before.1) (ap (λ (x : Side). x.port.id) before.1) safe)
+    (λ before. left_still g h before.1 safe k)
     (λ closes. let e = emptied_slots g.port.loans [] closes.1 k in
-    left_at g closes.0 h o e.passage.course (ap (λ (x : Side). x.links) closes.3) (ap (λ (x : Side). x.port.id) closes.3 ∙ (all_id closes.0.port.history (shut closes.0.port) ∙ e.passage.course.id)) safe)
+    left_at g closes.0 h o e.passage.course (ap (λ (x : Side). x.links) closes.3) (ap (λ (x : Side). x.port.id) closes.3 ∙ (all_id closes.0.port.history (shut closes.0.port) ∙ e.passage.course.id))
+    (λ s. subst (λ (x : Side). Snug x.port x.links) (sym closes.3) (snug_shut g.port.loans closes.0 e.order s)) safe)
 
 -- PORTS BY THEIR IDS
 
@@ -166,41 +189,59 @@ others_apart r a p id e f g = grind (rules, nat_tests)
 
 -- A CALL AT A PORT
 
-after_sane : (s : State) (id : PortId) (p : Pub) (h : Side) → pub_of id s.pubs ≡ Some p → Left (side_of s p) h → Sane s → Sane (after_pub s id h)
-after_sane s id p h e l n =
-    let own = pub_found id s.pubs p e in
-    let same : same_port h.port.id id ≡ true = ap (λ i. same_port i id) l.id ∙ own in
-    record {
-      bank = l.leaves.bank;
-      order = λ a r f. ⊎_elim
-          (λ is. subst (λ (q : Pub). InOrder q.loans [] (record { port = q; links = h.links })) (sym is.1) l.leaves.order)
-          (λ other. let found = pub_found a s.pubs r other.1 in
-          let ne = others_apart r.id a p.id id found own other.0 in
-          l.leaves.others r ne (n.order a r other.1))
-          (pub_changed id a h.port s.pubs r same f);
-    }
+-- every publisher stays by its settings
+pub record Snugs (s : State) : Type 0 where
+  pub each : (id : PortId) (p : Pub) → pub_of id s.pubs ≡ Some p → Snug p s.links
+
+record Onward (s t : State) : Type 0 where
+  sane : Sane t
+  snugs : Snugs s → Snugs t
+
+still : (s t : State) → t ≡ s → Sane s → Onward s t
+still s t same n = subst (Onward s) (sym same) (record { sane = n; snugs = λ k. k })
+
+after_call : (s : State) (id : PortId) (p : Pub) (h : Side) → pub_of id s.pubs ≡ Some p → Left (side_of s p) h → Sane s → Onward s (after_pub s id h)
+after_call s id p h e l n = record {
+  sane = record {
+    bank = l.leaves.bank;
+    order = each (λ q links. InOrder q.loans [] (record { port = q; links = links })) l.leaves.order (λ a r f ne. l.leaves.others r ne (n.order a r f));
+  };
+  snugs = λ k. record { each = each Snug (l.snug (k.each id p e)) (λ a r f ne. snug_unmoved r s.links h.links (l.others r.id ne) (k.each a r f)) };
+}
+  where
+    -- what holds of the publisher that was called and of all others
+    each : (P : Pub → Places → Type 0) → P h.port h.links → ((a : PortId) (r : Pub) → pub_of a s.pubs ≡ Some r → same_port r.id p.id ≡ false → P r h.links)
+        → (a : PortId) (r : Pub) → pub_of a (with_pub id h.port s.pubs) ≡ Some r → P r h.links
+    each P here there a r f =
+        let own = pub_found id s.pubs p e in
+        ⊎_elim
+        (λ is. subst (λ (q : Pub). P q h.links) (sym is.1) here)
+        (λ other. there a r other.1 (others_apart r.id a p.id id (pub_found a s.pubs r other.1) own other.0))
+        (pub_changed id a h.port s.pubs r (ap (λ i. same_port i id) l.id ∙ own) f)
 
 at_pub : (s : State) (id : PortId) (P : Side → Side → Type 0) (a : Answer) (t : State) → AtPub s id P a t → Sane s
-    → ((p : Pub) (h : Side) → pub_of id s.pubs ≡ Some p → P (side_of s p) h → t ≡ after_pub s id h → Left (side_of s p) h) → Sane t
+    → ((p : Pub) (h : Side) → pub_of id s.pubs ≡ Some p → P (side_of s p) h → t ≡ after_pub s id h → Left (side_of s p) h) → Onward s t
 at_pub s id P a t w n l = go (pub_of id s.pubs) refl w
   where
-    go : (x : Option Pub) → pub_of id s.pubs ≡ x → MatchOption x ((a ≡ NoSuchPort) × (t ≡ s)) (λ p. (h : Side) × P (side_of s p) h × (t ≡ after_pub s id h)) → Sane t
-    go None e v = subst Sane (sym v.1) n
-    go (Some p) e (h, k, is) = subst Sane (sym is) (after_sane s id p h e (l p h e k is) n)
+    go : (x : Option Pub) → pub_of id s.pubs ≡ x → MatchOption x ((a ≡ NoSuchPort) × (t ≡ s)) (λ p. (h : Side) × P (side_of s p) h × (t ≡ after_pub s id h)) → Onward s t
+    go None e v = still s t v.1 n
+    go (Some p) e (h, k, is) = subst (Onward s) (sym is) (after_call s id p h e (l p h e k is) n)
 
-stirred_sane : (s t : State) → t.pubs ≡ s.pubs → Stirred s.links t.links → Sane s → Sane t
-stirred_sane s t e st n = record {
-  bank = st.safe n.bank;
-  order = λ a r f. unmoved_order r.loans [] r s.links t.links (unmoved_held r.id s.links t.links st.same) (n.order a r (sym (ap (pub_of a) e) ∙ f));
+-- what every publisher sees as it was
+unmoved_call : (s t : State) → t.pubs ≡ s.pubs → SafeBank t.links → ((id : PortId) → Unmoved id s.links t.links) → Sane s → Onward s t
+unmoved_call s t e safe u n = record {
+  sane = record { bank = safe; order = λ a r f. unmoved_order r.loans [] r s.links t.links (u r.id) (n.order a r (sym (ap (pub_of a) e) ∙ f)) };
+  snugs = λ k. record { each = λ a r f. snug_unmoved r s.links t.links (u r.id) (k.each a r (sym (ap (pub_of a) e) ∙ f)) };
 }
 
 at_sub : (s : State) (id : PortId) (P : Half → Half → Type 0) (a : Answer) (t : State) → AtSub s id P a t → Sane s
-    → ((u : Sub) (h : Half) → P (half_of s u) h → Stirred s.links h.links) → Sane t
+    → ((u : Sub) (h : Half) → P (half_of s u) h → Stirred s.links h.links) → Onward s t
 at_sub s id P a t w n l = go (sub_of id s.subs) w
   where
-    go : (x : Option Sub) → MatchOption x ((a ≡ NoSuchPort) × (t ≡ s)) (λ u. (h : Half) × P (half_of s u) h × (t ≡ after_sub s id h)) → Sane t
-    go None v = subst Sane (sym v.1) n
-    go (Some u) (h, k, is) = subst Sane (sym is) (stirred_sane s (after_sub s id h) refl (l u h k) n)
+    go : (x : Option Sub) → MatchOption x ((a ≡ NoSuchPort) × (t ≡ s)) (λ u. (h : Half) × P (half_of s u) h × (t ≡ after_sub s id h)) → Onward s t
+    go None v = still s t v.1 n
+    go (Some u) (h, k, is) = let st = l u h k in
+        subst (Onward s) (sym is) (unmoved_call s (after_sub s id h) refl (st.safe n.bank) (λ i. unmoved_held i s.links h.links st.same) n)
 
 marked_alike : (id : PortId) (ps : Places) (i : ℕ) (x : Mark) → Unmoved id ps (changed ps i (λ l. with_mark l x))
 marked_alike id ps i x = record {
@@ -219,63 +260,77 @@ either false v f g = g v
 pub returned_id : (p : Pub) (o : PointerOffset) → (return_after p o).id ≡ p.id
 returned_id p o = search rules
 
-pub sane_step : (s : State) (c : Call) (a : Answer) (t : State) → Step s c a t → Memories t → Sane s → Sane t
-sane_step s (Loan id size align) a t w m n =
+snug_filled : (g : Side) (o : PointerOffset) (source : List ℕ) → Snug g.port g.links → Snug (fill_after g.port o source) g.links
+snug_filled g o source k = record { fits = k.fits; recent = k.recent; slots = k.slots }
+
+snug_returned : (g : Side) (o : PointerOffset) → Snug g.port g.links → Snug (return_after g.port o) g.links
+snug_returned g o k = cond_both (is_live g.port o) (unloaned g.port o) g.port (λ q. Snug q g.links) (λ _. record { fits = k.fits; recent = k.recent; slots = k.slots }) (λ _. k)
+
+onward : (s : State) (c : Call) (a : Answer) (t : State) → Step s c a t → Memories t → Sane s → Onward s t
+onward s (Loan id size align) a t w m n =
     at_pub s id (λ g h. (r : Result PointerOffset LoanError) × Loans g size align r h × (a ≡ told_loan r)) a t w n
     (λ p h e v is.
     let k = n.order id p e in
-    let i = (loan_links (side_of s p) size align v.0 h v.1 k).0 in
+    let i = loan_id (side_of s p) size align v.0 h v.1 k in
     let at_id : same_port h.port.id id ≡ true = ap (λ x. same_port x id) i ∙ pub_found id s.pubs p e in
     let mem = m id h.port (ap (λ (x : State). pub_of id x.pubs) is ∙ pub_set id h.port s.pubs p e at_id) in
     left_loan (side_of s p) size align v.0 h v.1 mem n.bank k)
-sane_step s (Fill id o bytes) a t w m n =
+onward s (Fill id o bytes) a t w m n =
     at_pub s id (λ g h. (h ≡ record { port = fill_after g.port o (vec_items bytes); links = g.links }) × (a ≡ told refusals.fill_refusal (fill_refusal g.port o (vec_items bytes)))) a t w n
     (λ p h e v is.
     let g = side_of s p in
-    subst (Left g) (sym v.0) (left_same g (beside g (fill_after p o (vec_items bytes))) (calls_keep_order.filling [] g o (vec_items bytes) (n.order id p e)) refl refl n.bank))
-sane_step s (Send id o k list) a t w m n =
+    subst (Left g) (sym v.0) (left_same g (beside g (fill_after p o (vec_items bytes))) (calls_keep_order.filling [] g o (vec_items bytes) (n.order id p e)) refl refl (snug_filled g o (vec_items bytes)) n.bank))
+onward s (Send id o k list) a t w m n =
     at_pub s id (λ g h. (r : Result ℕ SendError) × Sends (s.handlers id) g o k (vec_items list) r h × (a ≡ told_send r)) a t w n
     (λ p h e v is. left_send (s.handlers id) (side_of s p) o k (vec_items list) v.0 h v.1 n.bank (n.order id p e))
-sane_step s (Return id o) a t w m n =
+onward s (Return id o) a t w m n =
     at_pub s id (λ g h. (h ≡ record { port = return_after g.port o; links = g.links }) × (a ≡ told refusals.return_refusal (return_refusal g.port o))) a t w n
     (λ p h e v is.
     let g = side_of s p in
-    subst (Left g) (sym v.0) (left_same g (beside g (return_after p o)) (calls_keep_order.returning [] g o (n.order id p e)) refl (returned_id p o) n.bank))
-sane_step s (ClosePublisher id) a t w m n =
+    subst (Left g) (sym v.0) (left_same g (beside g (return_after p o)) (calls_keep_order.returning [] g o (n.order id p e)) refl (returned_id p o) (snug_returned g o) n.bank))
+onward s (ClosePublisher id) a t w m n =
     at_pub s id (λ g h. (f : Option CloseError) × Closes g f h × (a ≡ told close_refusal f)) a t w n
     (λ p h e v is. left_close (side_of s p) v.0 h v.1 n.bank (n.order id p e))
-sane_step s (Receive id) a t w m n =
+onward s (Receive id) a t w m n =
     at_sub s id (λ g h. (h ≡ receive_after (translation s) g) × (a ≡ told_receive (receive_answer (translation s) g))) a t w n
     (λ u h v. subst (λ (x : Half). Stirred s.links x.links) (sym v.0) (only_stirred.receiving (translation s) (half_of s u)))
-sane_step s (Release id x) a t w m n =
+onward s (Release id x) a t w m n =
     at_sub s id (λ g h. (h ≡ release_after g x) × (a ≡ told releasing_refusal (release_fault g x))) a t w n
     (λ u h v. subst (λ (y : Half). Stirred s.links y.links) (sym v.0) (only_stirred.releasing (half_of s u) x))
-sane_step s (Read id x) a t w m n =
+onward s (Read id x) a t w m n =
     at_sub s id (λ g h. (h ≡ g) × (a ≡ told_read s x (read_refused s g x))) a t w n
     (λ u h v. subst (λ (y : Half). Stirred s.links y.links) (sym v.0) (stir_refl s.links))
-sane_step s (Update id k list) a t w m n =
+onward s (Update id k list) a t w m n =
     at_sub s id (λ g h. (f : Option UpdateError) × Updates (is_known s) g k (vec_items list) f h × (a ≡ told update_refusal f)) a t w n
     (λ u h v. only_stirred.updating (is_known s) (half_of s u) k (vec_items list) v.0 h v.1)
-sane_step s (CloseSubscriber id) a t w m n =
+onward s (CloseSubscriber id) a t w m n =
     at_sub s id (λ g h. (h ≡ closed g) × (a ≡ Done)) a t w n
     (λ u h v. subst (λ (y : Half). Stirred s.links y.links) (sym v.0) (only_stirred.closing (half_of s u)))
-sane_step s (SetMark i k) a t w m n =
+onward s (SetMark i k) a t w m n =
     let links : State → Places = λ x. x.links in
     let sets : SetsMark s.rigged s.links i k t.links = either (may_set s i) w.1 (λ v. (v.0, v.1, ap links v.2)) (λ e. ap links e) in
     let safe = safe_marked s.rigged s.links i k t.links sets n.bank in
     goes (may_set s i) w.1
-    (λ set. subst Sane (sym set.2) (record {
-      bank = subst SafeBank (ap links set.2) safe;
-      order = λ b r f. unmoved_order r.loans [] r s.links (changed s.links i (λ l. with_mark l set.0)) (marked_alike r.id s.links i set.0) (n.order b r f);
-    }))
-    (λ same. subst Sane (sym same) n)
-sane_step s (SetPace i k) a t w m n = subst Sane (sym w.1) n
+    (λ set. unmoved_call s t (ap (λ (x : State). x.pubs) set.2) safe
+    (λ b. subst (Unmoved b s.links) (sym (ap links set.2)) (marked_alike b s.links i set.0)) n)
+    (λ same. still s t same n)
+onward s (SetPace i k) a t w m n = still s t w.1 n
+
+sane_step : (s : State) (c : Call) (a : Answer) (t : State) → Step s c a t → Memories t → Sane s → Sane t
+sane_step s c a t w m n = (onward s c a t w m n).sane
 
 pub sane_story : (s : State) (ms : List Moment) (t : State) → Story s ms t → All (λ m. Memories m.after) ms → Sane s → Sane t
 sane_story s [] t w m n = subst Sane (sym w) n
 sane_story s (x ∷ xs) t w m n =
     let before = sane_story s xs x.before w.2 (λ k d lt. m (suc k) d (omega (arith, lt))) n in
     subst Sane (sym w.0) (sane_step x.before x.call x.answer x.after w.1 (m 0 x (omega arith)) before)
+
+-- and every publisher stays by its settings
+pub snug_story : (s : State) (ms : List Moment) (t : State) → Story s ms t → All (λ m. Memories m.after) ms → Sane s → Snugs s → Snugs t
+snug_story s [] t w m n k = subst Snugs (sym w) k
+snug_story s (x ∷ xs) t w m n k =
+    let rest : All (λ m. Memories m.after) xs = λ i d lt. m (suc i) d (omega (arith, lt)) in
+    subst Snugs (sym w.0) ((onward x.before x.call x.answer x.after w.1 (m 0 x (omega arith)) (sane_story s xs x.before w.2 rest n)).snugs (snug_story s xs x.before w.2 rest n k))
 
 pub steps_keep_order : StepsKeepOrder
 steps_keep_order = record { step = sane_step; story = sane_story }
@@ -306,7 +361,7 @@ new_order : (p : Pub) (ps : Places) → NewPub p → Ledger p.chunks → ((i : �
 new_order p ps n l none =
     let gs = p.chunks.mem.segments in
     let no_count : (o : ℕ) → count_of p o ≡ 0 = λ o. cond_both (is_chunk gs o) (slice_index (counts_of p.chunks.counts (segment o)) (bucket gs o)) 0 (λ x. x ≡ 0) (λ _. n.counts (segment o) (bucket gs o)) (λ _. refl) in
-    let no_link : (o : ℕ) → held_by p.id ps o ≡ 0 = λ o. sum_alike (held_here p.id o) refl [] ps (λ i. ap (held_here p.id o) (none i)) in
+    let no_link : (o : ℕ) → held_by p.id ps o ≡ 0 = λ o. sum_alike None (held_here p.id o) refl [] ps (λ i. ap (held_here p.id o) (none i)) in
     record {
       books = record {
         ledger = l;
@@ -323,10 +378,19 @@ new_order p ps n l none =
       };
     }
 
-sane_new : (s : State) → New s → SetUp s → Sane s
+pub sane_new : (s : State) → New s → SetUp s → Sane s
 sane_new s n u = record {
   bank = record { sound = record { proper = λ i l e. no_link_there s.links i l (n.links i) e; pairs = λ i j k l lt e f. no_link_there s.links i k (n.links i) e }; unsent = λ i l e. no_link_there s.links i l (n.links i) e };
   order = λ id p e. new_order p s.links (n.pubs p id e) (u id p e) n.links;
+}
+
+pub snug_new : (s : State) → New s → Snugs s
+snug_new s n = record {
+  each = λ id p e. let w = n.pubs p id e in record {
+    fits = λ i d own. let f : ◌≡◌ {A = Option LinkDetails} None (Some d) = sym (ap (own_details p.id) (n.links i)) ∙ own in absurd (let z : ◌≡◌ {A = ℕ} 0 1 = cc in omega arith);
+    recent = omega (arith, ap length w.history);
+    slots = ap length w.slots ∙ length-replicate p.settings.max_subscribers vacant;
+  };
 }
 
 balanced : (p : Pub) (ps : Places) → SafeBank ps → InOrder p.loans [] (record { port = p; links = ps }) → Balanced p ps

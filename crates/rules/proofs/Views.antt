@@ -1,5 +1,5 @@
 -- What a publisher sees of the bank: its own links, and what they hold.
-use Rattle.std.proofs.Common.{arith, rules, true, false, cond, ◌≡◌, ℕ, suc, List, [], ◌∷◌, set, Some, None, sum_by, Option, refl, ◌∙◌}
+use Rattle.std.proofs.Common.{arith, rules, true, false, cond, ◌≡◌, ℕ, suc, List, [], ◌∷◌, get_or, set, Some, None, sum_by, Option, refl, ◌∙◌}
 use Rattle.std.specs.Option.{option_map}
 use Rattle.std.proofs.lemmas.List.Sums.{sum_by-cons}
 use Rattle.elementary.specs.Ids.{same_port}
@@ -75,14 +75,15 @@ unmoved_held id ps qs h = grind (arith, here_narrowed)
 
 -- A PUBLISHER IN ORDER
 
-pub sum_alike : (f : Option Link → ℕ) → f None ≡ 0 → (ps qs : Places) → ((i : ℕ) → f (at qs i) ≡ f (at ps i)) → sum_by f qs ≡ sum_by f ps
-sum_alike f z [] [] h = refl
-sum_alike f z [] (q ∷ qs) h = omega (arith, sum_by-cons f q qs, sum_alike f z [] qs (λ i. h (suc i)), h 0, z)
-sum_alike f z (p ∷ ps) [] h = omega (arith, sum_by-cons f p ps, sum_alike f z ps [] (λ i. h (suc i)), h 0, z)
-sum_alike f z (p ∷ ps) (q ∷ qs) h = omega (arith, sum_by-cons f q qs, sum_by-cons f p ps, sum_alike f z ps qs (λ i. h (suc i)), h 0)
+-- two lists that are alike at every place add up to the same
+pub sum_alike : {X : Type 0} (d : X) (f : X → ℕ) → f d ≡ 0 → (xs ys : List X) → ((i : ℕ) → f (get_or ys i d) ≡ f (get_or xs i d)) → sum_by f ys ≡ sum_by f xs
+sum_alike d f z [] [] h = refl
+sum_alike d f z [] (y ∷ ys) h = omega (arith, sum_by-cons f y ys, sum_alike d f z [] ys (λ i. h (suc i)), h 0, z)
+sum_alike d f z (x ∷ xs) [] h = omega (arith, sum_by-cons f x xs, sum_alike d f z xs [] (λ i. h (suc i)), h 0, z)
+sum_alike d f z (x ∷ xs) (y ∷ ys) h = omega (arith, sum_by-cons f y ys, sum_by-cons f x xs, sum_alike d f z xs ys (λ i. h (suc i)), h 0)
 
 pub unmoved_held_by : (id : PortId) (ps qs : Places) → Unmoved id ps qs → (o : ℕ) → held_by id qs o ≡ held_by id ps o
-unmoved_held_by id ps qs u o = sum_alike (held_here id o) refl ps qs (λ i. (u.alike i).holds o)
+unmoved_held_by id ps qs u o = sum_alike None (held_here id o) refl ps qs (λ i. (u.alike i).holds o)
 
 pub unmoved_order : (loans hand : List PointerOffset) (p : Pub) (ps qs : Places) → Unmoved p.id ps qs
     → InOrder loans hand (record { port = p; links = ps }) → InOrder loans hand (record { port = p; links = qs })

@@ -1,13 +1,18 @@
 -- An exchange in which every publisher is in order, as every call keeps it, and what follows of every run.
-use Rattle.std.specs.Prelude.{◌≡◌, ℕ, ◌+◌, ◌<◌, ◌≤◌, List, [], true, Some, Vec, nat_lt}
+use Rattle.std.specs.Prelude.{◌≡◌, ◌≢◌, ℕ, ◌+◌, ◌*◌, ◌<◌, ◌≤◌, List, [], true, Some, Vec, nat_lt}
 use Rattle.std.specs.List.{All}
 use Rattle.elementary.specs.declared.port_id.PortId.{PortId}
 use Rattle.rules.specs.declared.call.Call.{Call}
-use Rattle.rules.specs.declared.call.Call.TheVariants.{Send}
+use Rattle.rules.specs.declared.call.Call.TheVariants.{Loan, Send}
 use Rattle.elementary.specs.declared.pointer_offset.PointerOffset.{PointerOffset}
 use Rattle.elementary.specs.declared.port_list.SubscriberDetails.{SubscriberDetails}
 use Rattle.std.specs.declared.alloc.Global.{Global}
 use Rattle.rules.specs.declared.call.Answer.{Answer}
+use Rattle.rules.specs.declared.call.Answer.TheVariants.{Refused}
+use Rattle.elementary.specs.declared.settings.PublisherSettings.{PublisherSettings}
+use Rattle.elementary.specs.declared.error.LoanError.TheVariants.{OutOfMemory}
+use Rattle.elementary.specs.Refusals.{loan_refusal}
+use Rattle.rules.specs.Laws.{as_large}
 use Rattle.rules.specs.Memory.{IsMemory, taken_at}
 use Rattle.rules.specs.Links.{times}
 use Rattle.rules.specs.Bytes.{payload}
@@ -75,3 +80,17 @@ pub record SentBytesStay : Type 0 where
   pub stay : (s : State) (ms : List Moment) (t : State) → Story s ms t → Memories s → All (λ m. Memories m.after) ms → Sane s
       → (id : PortId) (p : Pub) (o : ℕ) → pub_of id s.pubs ≡ Some p → Out p s.links o → All (λ m. HeldIn id o m.after) ms
       → (q : Pub) → pub_of id t.pubs ≡ Some q → Out q t.links o × (shown q o ≡ shown p o)
+
+-- A LOAN IS SURE
+
+-- how many buckets a publisher that stays by its settings can have bound: its loans, its history, and for each of its slots a full buffer and
+-- all that may be borrowed
+abbrev pub most_bound : PublisherSettings → ℕ
+most_bound t = t.max_loaned_samples + (t.history_size + t.max_subscribers * (t.subscriber_max_buffer_size + t.subscriber_max_borrowed_samples))
+
+-- in every run from a new exchange: where a publisher's memory has that many buckets as large as asked, free or taken, no loan is refused for
+-- want of memory
+pub record LoanIsSure : Type 0 where
+  pub sure : (s : State) (ms : List Moment) (t : State) → New s → SetUp s → Story s ms t → Memories s → All (λ m. Memories m.after) ms
+      → (id : PortId) (p : Pub) (size align : ℕ) (a : Answer) (u : State) → pub_of id t.pubs ≡ Some p → most_bound p.settings ≤ as_large p.chunks.mem.segments size
+      → Step t (Loan id size align) a u → a ≢ Refused (loan_refusal OutOfMemory)

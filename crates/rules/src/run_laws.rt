@@ -1,5 +1,5 @@
 //! Laws of every call and of every run of an exchange, each a contract, so that the crate is proved only with its proof.
-ghost use Rattle.rules.specs.Sane.{StepsKeepOrder, CountsBalance, SentBytesStay};
+ghost use Rattle.rules.specs.Sane.{StepsKeepOrder, CountsBalance, SentBytesStay, LoanIsSure};
 
 /// Whatever is called, on whichever port, and whatever is refused, the bank stays safe and every publisher in order; and so in a run,
 /// whatever its calls, their order and their number.
@@ -17,4 +17,10 @@ pub fn counts_balance_stands()
 /// one and shows the same bytes.
 pub fn sent_bytes_stay_stands()
     ensures { SentBytesStay }
+{}
+
+/// Where a publisher's memory has as many buckets as large as asked, free or taken, as its settings can ever bind, no loan is refused for want
+/// of memory, whatever was called before and in whatever order its receivers let go.
+pub fn loan_is_sure_stands()
+    ensures { LoanIsSure }
 {}
