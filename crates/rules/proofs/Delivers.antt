@@ -2,7 +2,7 @@
 use Rattle.std.proofs.Common.{rules, arith, true, false, Bool, cond, ◌≡◌, ℕ, suc, ◌+◌, ◌<◌, ◌≤◌, eqb, List, [], ◌∷◌, ◌++◌, get_or, Some, None, Ok, Err, Option, Result, sym, refl, ap, ◌∙◌, subst, ⊎_elim}
 use Rattle.std.specs.Option.{option_to_list}
 use Rattle.std.proofs.lemmas.Bool.Decides.{nat_tests}
-use Rattle.std.proofs.lemmas.Bool.{cond-true, cond-false, false≢true, cases_Bool}
+use Rattle.std.proofs.lemmas.Bool.{cond-true, cond-false, false≢true, cases_Bool, not-true}
 use Rattle.container.specs.Queue.{has, without, overflowed, evicted}
 use Rattle.elementary.specs.Ids.{same_chunk}
 use Rattle.elementary.specs.declared.pointer_offset.PointerOffset.{PointerOffset}
@@ -25,6 +25,7 @@ use Rattle.rules.proofs.Removes.{rewired}
 use Rattle.rules.proofs.Posts.{Posted, if_slots, overflowed_evicted, held_few}
 use Rattle.rules.proofs.Connects.{take_up}
 use Rattle.rules.proofs.Updates.{updating}
+use Rattle.rules.proofs.Faults.{passed, list_fault, delivers_passed, updates_fault}
 
 -- ONE TRY
 
@@ -164,11 +165,14 @@ noting loans hand g o some few lent absent k = go (eqb p.settings.history_size 0
 
 -- THE SEND
 
-pub record SentOff (g : Side) (o : PointerOffset) (h : Side) : Type 0 where
+pub record SentOff (g : Side) (o : PointerOffset) (r : Result ℕ SendError) (h : Side) : Type 0 where
   pub order : InOrder h.port.loans [] h
   pub course : Course g h
   pub loans : h.port.loans ≡ without same_chunk g.port.loans o
   pub closed : h.port.closed ≡ g.port.closed
+  pub history : h.port.history ≡ cond (passed r) (history_with g.port o) g.port.history
+  -- what is closed delivers nothing
+  pub opened : g.port.closed ≡ true → passed r ≡ false
 
 -- a publisher whose loan of a chunk is in hand
 record InHand (g : Side) (o : PointerOffset) : Type 0 where
@@ -190,9 +194,10 @@ taken_in_hand g o live k =
     }
 
 -- the loan ends
-spending : (g k : Side) (o : PointerOffset) → k.port.loans ≡ g.port.loans → k.port.closed ≡ g.port.closed → Course g k
-    → InOrder (without same_chunk g.port.loans o) (o ∷ []) k → SentOff g o (spent k o)
-spending g k o loans closed c w =
+spending : (g k : Side) (o : PointerOffset) (r : Result ℕ SendError) → k.port.history ≡ cond (passed r) (history_with g.port o) g.port.history → (g.port.closed ≡ true → passed r ≡ false)
+    → k.port.loans ≡ g.port.loans → k.port.closed ≡ g.port.closed → Course g k
+    → InOrder (without same_chunk g.port.loans o) (o ∷ []) k → SentOff g o r (spent k o)
+spending g k o r history opened loans closed c w =
     let l = without same_chunk g.port.loans o in
     let p = k.port in
     let q : Pub = with_loans p (without same_chunk p.loans o) in
@@ -206,14 +211,21 @@ spending g k o loans closed c w =
       course = course_trans c (course_trans (course_lists p k.links (without same_chunk p.loans o) p.history p.closed (λ r. r)) (passage_let_go l [] k.links o q books).course);
       loans = same;
       closed = closed;
+      history = history;
+      opened = opened;
     }
 
+history_same : (p q : Pub) (o : PointerOffset) → p.history ≡ q.history → p.settings.history_size ≡ q.settings.history_size → history_with p o ≡ history_with q o
+history_same p q o h n = ap (λ xs. cond (eqb p.settings.history_size 0) xs (overflowed p.settings.history_size xs o)) h ∙ ap (λ k. cond (eqb k 0) q.history (overflowed k q.history o)) n
+
 -- between the list and the loan's end
-posts : (f : Handler) (g m : Side) (o : PointerOffset) (x : Option SendError) (r : Result ℕ SendError) (k : Side) → Posts f m o x r k → Passage g m → SafeBank m.links
-    → InHand g o → InOrder (without same_chunk g.port.loans o) (o ∷ []) m → SentOff g o (spent k o)
-posts f g m o (Some e) r k (_, is) p safe i w =
-    subst (λ (z : Side). SentOff g o (spent z o)) (sym is) (spending g m o p.loans p.closed p.course w)
-posts f g m o None r k d p safe i w =
+posts : (f : Handler) (g m : Side) (o : PointerOffset) (x : Option SendError) (r : Result ℕ SendError) (k : Side) → Posts f m o x r k → list_fault x ≡ true → g.port.closed ≡ false → Passage g m → SafeBank m.links
+    → InHand g o → InOrder (without same_chunk g.port.loans o) (o ∷ []) m → SentOff g o r (spent k o)
+posts f g m o (Some e) r k (answer, is) fault opened p safe i w =
+    let not_passed : passed r ≡ false = ap passed answer ∙ not-true _ fault in
+    subst (λ (z : Side). SentOff g o r (spent z o)) (sym is)
+    (spending g m o r (p.history ∙ sym (cond-false _ _ _ not_passed)) (λ _. not_passed) p.loans p.closed p.course w)
+posts f g m o None r k d fault opened p safe i w =
     let l = without same_chunk g.port.loans o in
     let v = o.value in
     let self : ◌≡◌ {A = ℕ} (times (o ∷ []) v) 1 = omega (arith, times_cons o [] v, one_self o) in
@@ -223,28 +235,31 @@ posts f g m o None r k d p safe i w =
     let n = noting l (o ∷ []) m o (omega (arith, count, self)) (omega (arith, count, self, absent, held, i.lent)) i.lent absent w in
     let s : Side = record { port = noted m.port o; links = m.links } in
     let y = delivering l (o ∷ []) f s o r k d (record { safe = n.course.bank safe; some = omega (arith, self); single = omega (arith, self) }) n.order in
-    spending g k o (y.passage.loans ∙ (n.loans_same ∙ p.loans)) (y.passage.closed ∙ (n.closed ∙ p.closed)) (course_trans p.course (course_trans n.course y.passage.course)) y.order
+    let history : k.port.history ≡ history_with g.port o = y.passage.history ∙ (n.history ∙ history_same m.port g.port o p.history (ap (λ t. t.history_size) p.course.settings)) in
+    spending g k o r (history ∙ sym (cond-true _ _ _ (delivers_passed f s o r k d))) (λ shut. absurd (false≢true (sym opened ∙ shut))) (y.passage.loans ∙ (n.loans_same ∙ p.loans)) (y.passage.closed ∙ (n.closed ∙ p.closed)) (course_trans p.course (course_trans n.course y.passage.course)) y.order
 
 single_hand : (o : PointerOffset) (x : ℕ) → times (o ∷ []) x ≤ 1
 single_hand o x = search rules
 
 pub sending_off : (f : Handler) (g : Side) (o : PointerOffset) (n : ℕ) (es : List SubscriberDetails) (r : Result ℕ SendError) (h : Side) → Sends f g o n es r h
-    → is_live g.port o ≡ true → SafeBank g.links → InOrder g.port.loans [] g → SentOff g o h
+    → is_live g.port o ≡ true → SafeBank g.links → InOrder g.port.loans [] g → SentOff g o r h
 sending_off f g o n es r h w live safe k = was (is_live g.port o) live w
   where
     i : InHand g o
     i = taken_in_hand g o live k
 
-    open_or : (b : Bool) → Goes b ((r ≡ Err send.ConnectionBrokenSinceSenderNoLongerExists) × (h ≡ spent g o))
-        ((x : Option SendError) × ((m : Side) × ((k : Side) × Updates g n es x m × Posts f m o x r k × (h ≡ spent k o)))) → SentOff g o h
-    open_or true (_, is) = subst (SentOff g o) (sym is) (spending g g o refl refl (passage_refl g).course i.order)
-    open_or false (x, (m, (k, updates, post, is))) =
+    open_or : (b : Bool) → g.port.closed ≡ b → Goes b ((r ≡ Err send.ConnectionBrokenSinceSenderNoLongerExists) × (h ≡ spent g o))
+        ((x : Option SendError) × ((m : Side) × ((k : Side) × Updates g n es x m × Posts f m o x r k × (h ≡ spent k o)))) → SentOff g o r h
+    open_or true _ (answer, is) =
+        let not_passed : passed r ≡ false = ap passed answer in
+        subst (SentOff g o r) (sym is) (spending g g o r (sym (cond-false _ _ _ not_passed)) (λ _. not_passed) refl refl (passage_refl g).course i.order)
+    open_or false opened (x, (m, (k, updates, post, is))) =
         let u = updating (without same_chunk g.port.loans o) (o ∷ []) g n es x m updates safe (single_hand o) i.order in
-        subst (SentOff g o) (sym is) (posts f g m o x r k post u.passage (u.passage.course.bank safe) i u.order)
+        subst (SentOff g o r) (sym is) (posts f g m o x r k post (updates_fault g n es x m updates) opened u.passage (u.passage.course.bank safe) i u.order)
 
     was : (b : Bool) → b ≡ true → Goes b (Goes g.port.closed ((r ≡ Err send.ConnectionBrokenSinceSenderNoLongerExists) × (h ≡ spent g o))
-        ((x : Option SendError) × ((m : Side) × ((k : Side) × Updates g n es x m × Posts f m o x r k × (h ≡ spent k o))))) ((r ≡ Err send.LoanNotLive) × (h ≡ g)) → SentOff g o h
-    was true e v = open_or g.port.closed v
+        ((x : Option SendError) × ((m : Side) × ((k : Side) × Updates g n es x m × Posts f m o x r k × (h ≡ spent k o))))) ((r ≡ Err send.LoanNotLive) × (h ≡ g)) → SentOff g o r h
+    was true e v = open_or g.port.closed refl v
     was false e v = absurd (false≢true e)
 
 -- THE LAW

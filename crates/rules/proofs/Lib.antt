@@ -19,7 +19,9 @@ pub mod Cycles
 pub mod Posts
 pub mod Connects
 pub mod Updates
+pub mod Faults
 pub mod Delivers
 pub mod Steps
 pub mod Stays
 pub mod Sure
+pub mod History

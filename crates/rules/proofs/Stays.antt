@@ -229,7 +229,7 @@ stays_at s i B a t w id p o f out held l = go (pub_of i s.pubs) refl w
     go None e v = stays_same s t id p o (ap (λ (z : State). z.pubs) v.1) f out held
     go (Some x) e (h, b, is) = subst (λ z. Stays s z id p o) (sym is) (called x h e (l x h e b is) (subst (HeldIn id o) is held))
 
-sub_pubs : (s : State) (i : PortId) (B : Sub → Half → Type 0) (a : Answer) (t : State)
+pub sub_pubs : (s : State) (i : PortId) (B : Sub → Half → Type 0) (a : Answer) (t : State)
     → MatchOption (sub_of i s.subs) ((a ≡ NoSuchPort) × (t ≡ s)) (λ u. (h : Half) × B u h × (t ≡ after_sub s i h)) → t.pubs ≡ s.pubs
 sub_pubs s i B a t w = go (sub_of i s.subs) w
   where
@@ -237,7 +237,7 @@ sub_pubs s i B a t w = go (sub_of i s.subs) w
     go None v = ap (λ (z : State). z.pubs) v.1
     go (Some u) (h, b, is) = ap (λ (z : State). z.pubs) is
 
-mark_pubs : (s : State) (i : ℕ) (k : Mark) (a : Answer) (t : State) → Step s (SetMark i k) a t → t.pubs ≡ s.pubs
+pub mark_pubs : (s : State) (i : ℕ) (k : Mark) (a : Answer) (t : State) → Step s (SetMark i k) a t → t.pubs ≡ s.pubs
 mark_pubs s i k a t w = goes (may_set s i) w.1 (λ set. ap (λ (z : State). z.pubs) set.2) (λ same. ap (λ (z : State). z.pubs) same)
 
 stays_step : (s : State) (c : Call) (a : Answer) (t : State) → Step s c a t → Memories s → Sane s → (id : PortId) (p : Pub) (o : ℕ) → pub_of id s.pubs ≡ Some p → Out p s.links o

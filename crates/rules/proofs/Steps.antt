@@ -33,7 +33,7 @@ use Rattle.rules.specs.Subscriber.{Sub, Half, Updates, receive_after, receive_an
 use Rattle.rules.specs.Holdings.{Stirred}
 use Rattle.rules.specs.Books.{InOrder, beside, LeavesOrder, held_here, held_by, count_of, owns, Ledger}
 use Rattle.rules.specs.Exchange.{State, Moment, pub_of, with_pub, sub_of, side_of, half_of, after_pub, after_sub, AtPub, AtSub, may_set, told, told_loan, told_send, told_receive, told_read, read_refused, translation, is_known, Step, Story, New, NewPub}
-use Rattle.rules.specs.Sane.{Memories, Sane, StepsKeepOrder, SetUp, Balanced, CountsBalance}
+use Rattle.rules.specs.Sane.{Memories, Sane, StepsKeepOrder, SetUp, Balanced, CountsBalance, LinksStayInOrder}
 use Rattle.rules.proofs.Banks.{goes}
 use Rattle.rules.proofs.Safe.{safe_marked}
 use Rattle.rules.proofs.Holdings.{stir_refl}
@@ -409,4 +409,13 @@ balanced p ps safe k =
 pub counts_balance : CountsBalance
 counts_balance = record {
   balance = λ s ms t n u w m id p e. let z = sane_story s ms t w m (sane_new s n u) in balanced p t.links z.bank (z.order id p e);
+}
+
+pub links_stay_in_order : LinksStayInOrder
+links_stay_in_order = record {
+  proper = λ s ms t n u w m. (sane_story s ms t w m (sane_new s n u)).bank.sound.proper;
+  slot = λ s ms t n u w m id p e j own.
+      let k = ((sane_story s ms t w m (sane_new s n u)).order id p e).wired in
+      let f = k.cover j own in
+      (f.0, (f.1.0, f.1.1, f.1.2, λ i d there same. k.apart i f.0 d f.1.0 there f.1.1 (same ∙ sym f.1.2)));
 }

@@ -1,24 +1,25 @@
 -- An exchange in which every publisher is in order, as every call keeps it, and what follows of every run.
-use Rattle.std.specs.Prelude.{◌≡◌, ◌≢◌, ℕ, ◌+◌, ◌*◌, ◌<◌, ◌≤◌, List, [], true, Some, Vec, nat_lt}
+use Rattle.std.specs.Prelude.{◌≡◌, ◌≢◌, ℕ, ◌+◌, ◌*◌, ◌<◌, ◌≤◌, Bool, true, false, cond, ◌&&◌, List, [], ◌∷◌, ◌++◌, Some, Vec, nat_lt}
 use Rattle.std.specs.List.{All}
+use Rattle.elementary.specs.Ids.{same_port}
 use Rattle.elementary.specs.declared.port_id.PortId.{PortId}
 use Rattle.rules.specs.declared.call.Call.{Call}
-use Rattle.rules.specs.declared.call.Call.TheVariants.{Loan, Send}
+use Rattle.rules.specs.declared.call.Call.TheVariants.{Loan, Fill, Send, Return, ClosePublisher, Receive, Release, Read, Update, CloseSubscriber, SetMark, SetPace}
 use Rattle.elementary.specs.declared.pointer_offset.PointerOffset.{PointerOffset}
 use Rattle.elementary.specs.declared.port_list.SubscriberDetails.{SubscriberDetails}
 use Rattle.std.specs.declared.alloc.Global.{Global}
 use Rattle.rules.specs.declared.call.Answer.{Answer}
-use Rattle.rules.specs.declared.call.Answer.TheVariants.{Refused}
+use Rattle.rules.specs.declared.call.Answer.TheVariants.{Done, Lent, Sent, Received, Payload, Refused, NoSuchPort}
 use Rattle.elementary.specs.declared.settings.PublisherSettings.{PublisherSettings}
 use Rattle.elementary.specs.declared.error.LoanError.TheVariants.{OutOfMemory}
 use Rattle.elementary.specs.Refusals.{loan_refusal}
 use Rattle.rules.specs.Laws.{as_large}
 use Rattle.rules.specs.Memory.{IsMemory, taken_at}
-use Rattle.rules.specs.Links.{times}
+use Rattle.rules.specs.Links.{Link, Proper, times}
 use Rattle.rules.specs.Bytes.{payload}
-use Rattle.rules.specs.Bank.{Places, SafeBank}
-use Rattle.rules.specs.Publisher.{Pub, is_live}
-use Rattle.rules.specs.Books.{Ledger, InOrder, count_of, held_by}
+use Rattle.rules.specs.Bank.{Places, at, SafeBank}
+use Rattle.rules.specs.Publisher.{Connection, Pub, slot_at, is_live, last_of}
+use Rattle.rules.specs.Books.{Ledger, InOrder, count_of, held_by, owns}
 use Rattle.rules.specs.Exchange.{State, Moment, pub_of, side_of, Step, Story, New}
 
 -- what publishers have are memories
@@ -94,3 +95,50 @@ pub record LoanIsSure : Type 0 where
   pub sure : (s : State) (ms : List Moment) (t : State) → New s → SetUp s → Story s ms t → Memories s → All (λ m. Memories m.after) ms
       → (id : PortId) (p : Pub) (size align : ℕ) (a : Answer) (u : State) → pub_of id t.pubs ≡ Some p → most_bound p.settings ≤ as_large p.chunks.mem.segments size
       → Step t (Loan id size align) a u → a ≢ Refused (loan_refusal OutOfMemory)
+
+-- A HISTORY IS THE LAST SENDS
+
+-- whether a send was delivered, by its answer: it was not refused, or not before its delivery
+abbrev pub was_delivered : Answer → Bool
+was_delivered Done = false
+was_delivered (Lent o) = false
+was_delivered (Sent n) = true
+was_delivered (Received x) = false
+was_delivered (Payload s l) = false
+was_delivered (Refused r) = nat_lt 10 r.number
+was_delivered NoSuchPort = false
+
+-- the chunk that a call sent for a publisher
+abbrev pub sent_by : PortId → Call → Answer → List PointerOffset
+sent_by id (Loan i size align) a = []
+sent_by id (Fill i o bytes) a = []
+sent_by id (Send i o n list) a = cond (same_port id i && was_delivered a) (o ∷ []) []
+sent_by id (Return i o) a = []
+sent_by id (ClosePublisher i) a = []
+sent_by id (Receive i) a = []
+sent_by id (Release i x) a = []
+sent_by id (Read i x) a = []
+sent_by id (Update i n list) a = []
+sent_by id (CloseSubscriber i) a = []
+sent_by id (SetMark i m) a = []
+sent_by id (SetPace i n) a = []
+
+-- all that a run sent for it, oldest first; of moments the newest stands first
+abbrev pub sends_of : PortId → List Moment → List PointerOffset
+sends_of id [] = []
+sends_of id (m ∷ ms) = sends_of id ms ++ sent_by id m.call m.answer
+
+pub record HistoryIsLastSends : Type 0 where
+  pub history : (s : State) (ms : List Moment) (t : State) → New s → SetUp s → Story s ms t → All (λ m. Memories m.after) ms
+      → (id : PortId) (p : Pub) → pub_of id t.pubs ≡ Some p → p.history ≡ cond p.closed [] (last_of p.settings.history_size (sends_of id ms))
+
+-- WHERE LINKS STAND
+
+pub record LinksStayInOrder : Type 0 where
+  -- each link keeps to its bounds, and has no offset twice
+  pub proper : (s : State) (ms : List Moment) (t : State) → New s → SetUp s → Story s ms t → All (λ m. Memories m.after) ms
+      → (j : ℕ) (l : Link) → at t.links j ≡ Some l → Proper l
+  -- each attached sender end of a publisher stands in one of its slots, and in no other
+  pub slot : (s : State) (ms : List Moment) (t : State) → New s → SetUp s → Story s ms t → All (λ m. Memories m.after) ms
+      → (id : PortId) (p : Pub) → pub_of id t.pubs ≡ Some p → (j : ℕ) → owns p.id (at t.links j) ≡ true
+      → (i : ℕ) × ((c : Connection) × (slot_at p i ≡ Some c) × (c.place ≡ j) × ((k : ℕ) (d : Connection) → slot_at p k ≡ Some d → d.place ≡ j → k ≡ i))

@@ -1,5 +1,5 @@
 //! Laws of every call and of every run of an exchange, each a contract, so that the crate is proved only with its proof.
-ghost use Rattle.rules.specs.Sane.{StepsKeepOrder, CountsBalance, SentBytesStay, LoanIsSure};
+ghost use Rattle.rules.specs.Sane.{StepsKeepOrder, CountsBalance, SentBytesStay, LoanIsSure, HistoryIsLastSends, LinksStayInOrder};
 
 /// Whatever is called, on whichever port, and whatever is refused, the bank stays safe and every publisher in order; and so in a run,
 /// whatever its calls, their order and their number.
@@ -23,4 +23,16 @@ pub fn sent_bytes_stay_stands()
 /// of memory, whatever was called before and in whatever order its receivers let go.
 pub fn loan_is_sure_stands()
     ensures { LoanIsSure }
+{}
+
+/// After every call of every run from a new exchange, an open publisher's history is the chunks of its last sends that came to their delivery, as
+/// many as its settings say; a closed one has none.
+pub fn history_is_last_sends_stands()
+    ensures { HistoryIsLastSends }
+{}
+
+/// After every call of every run from a new exchange, every link keeps to its bounds and has no offset twice, and each attached sender end
+/// stands in exactly one slot of its publisher.
+pub fn links_stay_in_order_stands()
+    ensures { LinksStayInOrder }
 {}
