@@ -25,8 +25,8 @@ pub fn loan_is_sure_stands()
     ensures { LoanIsSure }
 {}
 
-/// After every call of every run from a new exchange, an open publisher's history is the chunks of its last sends that came to their delivery, as
-/// many as its settings say; a closed one has none.
+/// After every call of every run from a new exchange, a publisher that is open keeps in its history what it sent last, of sends that came to
+/// their delivery, as many as its settings say; one that is closed keeps none.
 pub fn history_is_last_sends_stands()
     ensures { HistoryIsLastSends }
 {}
