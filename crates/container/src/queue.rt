@@ -1,5 +1,5 @@
 //! A queue of at most `limit` entries. Its memory, for N entries, is taken when it is made, so no later call allocates or fails for want of memory.
-ghost use Rattle.std.specs.Prelude.{◌≡◌, ◌≤◌};
+ghost use Rattle.std.specs.Prelude.{◌≡◌, ◌≤◌, Bool};
 ghost use Rattle.std.specs.VecDeque.{deque_len, deque_capacity};
 
 use std::alloc::{AllocError, Global};
@@ -18,8 +18,8 @@ pub struct Queue<T, const N: usize> {
 }
 
 impl<T, const N: usize> Queue<T, N> {
-    ghost use Rattle.std.specs.Prelude.{◌≡◌, min, [], length, IfOk, ◌==◌, nat_le};
-    ghost use Rattle.std.specs.List.{slice_get};
+    ghost use Rattle.std.specs.Prelude.{◌≡◌, min, [], length, IfOk, MatchOption, is_some, ◌==◌, nat_le};
+    ghost use Rattle.std.specs.List.{slice_get, remove};
     ghost use Rattle.std.specs.VecDeque.Iter.{deque_iter_rest};
     ghost use Rattle.std.specs.Option.{option_map};
     ghost use Rattle.container.specs.Queue.{entries, bound, oldest, later, pushed, handed_back, overflowed, evicted};
@@ -118,12 +118,35 @@ impl<T, const N: usize> Queue<T, N> {
         self.items.get(i)
     }
 
+    // Takes out the entry at a place that a search answered, and says whether there was one.
+    fn take_out(&mut self, place: Option<usize>) -> bool
+    where
+        T: Drop,
+        ensures value { result ≡ is_some place }
+        ensures items { MatchOption place (entries self.new ≡ entries self.old) (λ i. entries self.new ≡ remove (entries self.old) i) }
+        ensures limit { bound self.new ≡ bound self.old }
+    {
+        let Some(i) = place else {
+            return false;
+        };
+        let _ = self.items.remove(i);
+        true
+    }
+
     /// Oldest first.
     pub fn iter(&self) -> Iter<'_, T>
         ensures { deque_iter_rest result ≡ entries self.now }
     {
         self.items.iter()
     }
+}
+
+/// Entries that can be told apart by a test of their own, as by a key that they carry. It need not be `==`, nor symmetric, nor transitive.
+pub trait Same: Copy {
+    ghost like: { Self → Self → Bool };
+
+    fn same(self, other: Self) -> bool
+        ensures { result ≡ like self other };
 }
 
 impl<T: PartialEq, const N: usize> Queue<T, N> {
@@ -151,11 +174,37 @@ impl<T: PartialEq, const N: usize> Queue<T, N> {
         ensures items { entries self.new ≡ without T.eq (entries self.old) x.now }
         ensures limit { bound self.new ≡ bound self.old }
     {
-        let Some(i) = self.position(x) else {
-            return false;
-        };
-        let _ = self.items.remove(i);
-        true
+        let place = self.position(x);
+        self.take_out(place)
+    }
+}
+
+impl<T: Same, const N: usize> Queue<T, N> {
+    ghost use Rattle.std.specs.Prelude.{◌≡◌};
+    ghost use Rattle.container.specs.Queue.{entries, bound, has, without, Place};
+
+    /// The place of the oldest entry like `x`.
+    fn position_same(&self, x: T) -> Option<usize>
+        ensures { Place T.like (entries self.now) x result }
+    {
+        self.iter().position(|y| y.same(x))
+    }
+
+    /// `contains` by the entries' own test.
+    pub fn contains_same(&self, x: T) -> bool
+        ensures { result ≡ has T.like (entries self.now) x }
+    {
+        self.position_same(x).is_some()
+    }
+
+    /// `remove` by the entries' own test.
+    pub fn remove_same(&mut self, x: T) -> bool
+        ensures value { result ≡ has T.like (entries self.old) x }
+        ensures items { entries self.new ≡ without T.like (entries self.old) x }
+        ensures limit { bound self.new ≡ bound self.old }
+    {
+        let place = self.position_same(x);
+        self.take_out(place)
     }
 }
 
