@@ -9,7 +9,7 @@ use std::fmt;
 use thiserror::Error;
 
 /// What a refusal tells: its number, and the number of the cause if it carries one. Numbers and no cases, since these are what users see
-/// and scripts compare. Each error that a user meets is an enum, and turns into them by `From`: a line each, as no derive gives an enum's discriminant.
+/// and scripts compare. Each error that a user meets is an enum, and is `Refused`: a line each, as no derive gives an enum's discriminant.
 #[derive(Clone, Copy, PartialEq, Eq, Debug)]
 pub struct Refusal {
     pub number: u8,
@@ -25,6 +25,22 @@ impl Refusal {
             number,
             cause: None,
         }
+    }
+}
+
+/// Errors that a user meets. What such an error tells is a function of it, which generic code can name.
+pub trait Refused: Sized {
+    ghost tells: { Self → Refusal };
+
+    fn refusal(self) -> Refusal
+        ensures { result ≡ tells self };
+}
+
+impl<E: Refused> From<E> for Refusal {
+    ghost from_gives = { λ e r. r ≡ E.tells e };
+
+    fn from(error: E) -> Refusal {
+        error.refusal()
     }
 }
 
@@ -64,11 +80,11 @@ pub enum AllocationError {
     OutOfMemory = 5,
 }
 
-impl From<AllocationError> for Refusal {
-    ghost from_gives = { λ e r. r ≡ allocation_refusal e };
+impl Refused for AllocationError {
+    ghost tells = { allocation_refusal };
 
-    fn from(error: AllocationError) -> Refusal {
-        Refusal::new(error as u8)
+    fn refusal(self) -> Refusal {
+        Refusal::new(self as u8)
     }
 }
 
@@ -79,11 +95,11 @@ pub enum DeallocationError {
     NotTaken = 15,
 }
 
-impl From<DeallocationError> for Refusal {
-    ghost from_gives = { λ e r. r ≡ deallocation_refusal e };
+impl Refused for DeallocationError {
+    ghost tells = { deallocation_refusal };
 
-    fn from(error: DeallocationError) -> Refusal {
-        Refusal::new(error as u8)
+    fn refusal(self) -> Refusal {
+        Refusal::new(self as u8)
     }
 }
 
@@ -100,11 +116,11 @@ pub enum ZeroCopyCreationError {
     NoPlaceLeft = 23,
 }
 
-impl From<ZeroCopyCreationError> for Refusal {
-    ghost from_gives = { λ e r. r ≡ creation_refusal e };
+impl Refused for ZeroCopyCreationError {
+    ghost tells = { creation_refusal };
 
-    fn from(error: ZeroCopyCreationError) -> Refusal {
-        Refusal::new(error as u8)
+    fn refusal(self) -> Refusal {
+        Refusal::new(self as u8)
     }
 }
 
@@ -117,11 +133,11 @@ pub enum ZeroCopyReceiveError {
     NotConnected = 15,
 }
 
-impl From<ZeroCopyReceiveError> for Refusal {
-    ghost from_gives = { λ e r. r ≡ receiving_refusal e };
+impl Refused for ZeroCopyReceiveError {
+    ghost tells = { receiving_refusal };
 
-    fn from(error: ZeroCopyReceiveError) -> Refusal {
-        Refusal::new(error as u8)
+    fn refusal(self) -> Refusal {
+        Refusal::new(self as u8)
     }
 }
 
@@ -134,11 +150,11 @@ pub enum ZeroCopyReleaseError {
     RetrieveBufferFull = 16,
 }
 
-impl From<ZeroCopyReleaseError> for Refusal {
-    ghost from_gives = { λ e r. r ≡ releasing_refusal e };
+impl Refused for ZeroCopyReleaseError {
+    ghost tells = { releasing_refusal };
 
-    fn from(error: ZeroCopyReleaseError) -> Refusal {
-        Refusal::new(error as u8)
+    fn refusal(self) -> Refusal {
+        Refusal::new(self as u8)
     }
 }
 
@@ -149,11 +165,11 @@ pub enum ConnectionError {
     NotConnected = 15,
 }
 
-impl From<ConnectionError> for Refusal {
-    ghost from_gives = { λ e r. r ≡ connection_refusal e };
+impl Refused for ConnectionError {
+    ghost tells = { connection_refusal };
 
-    fn from(error: ConnectionError) -> Refusal {
-        Refusal::new(error as u8)
+    fn refusal(self) -> Refusal {
+        Refusal::new(self as u8)
     }
 }
 
@@ -172,11 +188,11 @@ pub enum LoanError {
     ConnectionBrokenSinceSenderNoLongerExists = 8,
 }
 
-impl From<LoanError> for Refusal {
-    ghost from_gives = { λ e r. r ≡ loan_refusal e };
+impl Refused for LoanError {
+    ghost tells = { loan_refusal };
 
-    fn from(error: LoanError) -> Refusal {
-        Refusal::new(error as u8)
+    fn refusal(self) -> Refusal {
+        Refusal::new(self as u8)
     }
 }
 
@@ -189,11 +205,11 @@ pub enum FillError {
     OutOfBounds = 7,
 }
 
-impl From<FillError> for Refusal {
-    ghost from_gives = { λ e r. r ≡ fill_refusal e };
+impl Refused for FillError {
+    ghost tells = { fill_refusal };
 
-    fn from(error: FillError) -> Refusal {
-        Refusal::new(error as u8)
+    fn refusal(self) -> Refusal {
+        Refusal::new(self as u8)
     }
 }
 
@@ -216,11 +232,11 @@ pub enum SendError {
     UnableToDeliver,
 }
 
-impl From<SendError> for Refusal {
-    ghost from_gives = { λ e r. r ≡ send_refusal e };
+impl Refused for SendError {
+    ghost tells = { send_refusal };
 
-    fn from(error: SendError) -> Refusal {
-        match error {
+    fn refusal(self) -> Refusal {
+        match self {
             SendError::LoanNotLive => Refusal::new(6),
             SendError::ConnectionBrokenSinceSenderNoLongerExists => Refusal::new(8),
             SendError::MalformedList => Refusal::new(9),
@@ -242,11 +258,11 @@ pub enum ReturnError {
     LoanNotLive = 6,
 }
 
-impl From<ReturnError> for Refusal {
-    ghost from_gives = { λ e r. r ≡ return_refusal e };
+impl Refused for ReturnError {
+    ghost tells = { return_refusal };
 
-    fn from(error: ReturnError) -> Refusal {
-        Refusal::new(error as u8)
+    fn refusal(self) -> Refusal {
+        Refusal::new(self as u8)
     }
 }
 
@@ -257,11 +273,11 @@ pub enum ReceiveError {
     ExceedsMaxBorrows = 14,
 }
 
-impl From<ReceiveError> for Refusal {
-    ghost from_gives = { λ e r. r ≡ receive_refusal e };
+impl Refused for ReceiveError {
+    ghost tells = { receive_refusal };
 
-    fn from(error: ReceiveError) -> Refusal {
-        Refusal::new(error as u8)
+    fn refusal(self) -> Refusal {
+        Refusal::new(self as u8)
     }
 }
 
@@ -274,11 +290,11 @@ pub enum ReadError {
     NotBorrowed = 15,
 }
 
-impl From<ReadError> for Refusal {
-    ghost from_gives = { λ e r. r ≡ read_refusal e };
+impl Refused for ReadError {
+    ghost tells = { read_refusal };
 
-    fn from(error: ReadError) -> Refusal {
-        Refusal::new(error as u8)
+    fn refusal(self) -> Refusal {
+        Refusal::new(self as u8)
     }
 }
 
@@ -295,11 +311,11 @@ pub enum UpdateError {
     NoUnusedKey,
 }
 
-impl From<UpdateError> for Refusal {
-    ghost from_gives = { λ e r. r ≡ update_refusal e };
+impl Refused for UpdateError {
+    ghost tells = { update_refusal };
 
-    fn from(error: UpdateError) -> Refusal {
-        match error {
+    fn refusal(self) -> Refusal {
+        match self {
             UpdateError::MalformedList => Refusal::new(9),
             UpdateError::ConnectionFailure(cause) => Refusal {
                 number: 10,
@@ -318,11 +334,11 @@ pub enum CloseError {
     ConnectionBrokenSinceSenderNoLongerExists = 8,
 }
 
-impl From<CloseError> for Refusal {
-    ghost from_gives = { λ e r. r ≡ close_refusal e };
+impl Refused for CloseError {
+    ghost tells = { close_refusal };
 
-    fn from(error: CloseError) -> Refusal {
-        Refusal::new(error as u8)
+    fn refusal(self) -> Refusal {
+        Refusal::new(self as u8)
     }
 }
 
@@ -333,11 +349,11 @@ pub enum SettingsError {
     OutOfRange = 1,
 }
 
-impl From<SettingsError> for Refusal {
-    ghost from_gives = { λ e r. r ≡ settings_refusal e };
+impl Refused for SettingsError {
+    ghost tells = { settings_refusal };
 
-    fn from(error: SettingsError) -> Refusal {
-        Refusal::new(error as u8)
+    fn refusal(self) -> Refusal {
+        Refusal::new(self as u8)
     }
 }
 
