@@ -5,7 +5,7 @@ ghost use Rattle.rules.specs.Memory.{allocation_fault, Allocates, taken_at};
 ghost use Rattle.rules.specs.Counts.{count_at, counted, borrowed, released};
 ghost use Rattle.rules.specs.Bytes.{fill_fault, filled, read_fault, payload};
 ghost use Rattle.rules.specs.Pools.{by};
-ghost use Rattle.memory.specs.State.{chunks_of};
+ghost use Rattle.memory.specs.State.{chunks_of, counts_in};
 
 use elementary::error::{AllocationError, FillError, ReadError};
 use elementary::pointer_offset::PointerOffset;
@@ -64,7 +64,7 @@ impl<M: Memory> Feed<M> {
     pub(crate) fn loan(&mut self, size: usize) -> Result<PointerOffset, AllocationError>
         ensures fault { result_err result ≡ allocation_fault (M.model self.old.memory) size 8 }
         ensures memory { Allocates (M.model self.old.memory) size result (M.model self.new.memory) }
-        ensures counts { self.new.state ≡ by (result_ok result) self.old.state (λ o. counted (M.model self.new.memory).segments self.old.state o.value) }
+        ensures counts { counts_in self.new.state ≡ by (result_ok result) (counts_in self.old.state) (λ o. counted (M.model self.new.memory).segments (counts_in self.old.state) o.value) }
     {
         let offset = self.memory.allocate(size, 8)?;
         let _ = self.state.borrow_sample(&self.memory, offset);
@@ -89,7 +89,7 @@ impl<M: Memory> Feed<M> {
 
     // One holder more; answers how many there were.
     pub(crate) fn hold(&mut self, offset: PointerOffset) -> u64
-        ensures value { result ≡ count_at (M.model self.old.memory).segments self.old.state offset.value }
+        ensures value { result ≡ count_at (M.model self.old.memory).segments (counts_in self.old.state) offset.value }
         ensures after { chunks_of (M.model self.new.memory) self.new.state ≡ borrowed (chunks_of (M.model self.old.memory) self.old.state) offset.value }
     {
         let (before, _) = self.state.borrow_sample(&self.memory, offset);
@@ -98,7 +98,7 @@ impl<M: Memory> Feed<M> {
 
     // One holder less, and a free bucket if that was the last; answers how many there were.
     pub(crate) fn let_go(&mut self, offset: PointerOffset) -> u64
-        ensures value { result ≡ count_at (M.model self.old.memory).segments self.old.state offset.value }
+        ensures value { result ≡ count_at (M.model self.old.memory).segments (counts_in self.old.state) offset.value }
         ensures after { chunks_of (M.model self.new.memory) self.new.state ≡ released (chunks_of (M.model self.old.memory) self.old.state) offset.value }
     {
         let before = self.state.release_chunk(&mut self.memory, offset);

@@ -26,8 +26,6 @@ pub trait Buckets: Sized {
 
 /// What can be asked of a memory. Segments are named by their number from 0.
 pub trait Segmented: Sized {
-    type Segment: Buckets;
-
     ghost model: { Self → Mem };
 
     /// The greatest number of segments.
@@ -38,39 +36,22 @@ pub trait Segmented: Sized {
     fn number_of_segments(&self) -> usize
         ensures { result ≡ length (model self.now).segments };
 
-    /// One segment, if it is there.
-    fn segment(&self, segment: usize) -> Option<&Self::Segment>
-        ensures there { is_some result ≡ nat_lt segment (length (model self.now).segments) }
-        ensures buckets { IfSome result (λ s. Self.Segment.segment s.now ≡ segment_at (model self.now).segments segment) };
+    /// 0 for a segment that is not there.
+    fn bucket_size(&self, segment: usize) -> usize
+        ensures { result ≡ (segment_at (model self.now).segments segment).size };
+
+    /// 0 for a segment that is not there.
+    fn number_of_buckets(&self, segment: usize) -> usize
+        ensures { result ≡ length (segment_at (model self.now).segments segment).taken };
+
+    fn start(&self, segment: usize) -> Option<usize>
+        ensures { result ≡ start_of (model self.now).segments segment };
 
     fn capacity(&self) -> usize
         ensures { result ≡ (model self.now).capacity };
 
-    /// 0 for a segment that is not there.
-    fn bucket_size(&self, segment: usize) -> usize
-        ensures { result ≡ (segment_at (model self.now).segments segment).size }
-    {
-        self.segment(segment).map_or(0, |s| s.bucket_size())
-    }
-
-    /// 0 for a segment that is not there.
-    fn number_of_buckets(&self, segment: usize) -> usize
-        ensures { result ≡ length (segment_at (model self.now).segments segment).taken }
-    {
-        self.segment(segment).map_or(0, |s| s.number_of_buckets())
-    }
-
-    fn start(&self, segment: usize) -> Option<usize>
-        ensures { result ≡ start_of (model self.now).segments segment }
-    {
-        self.segment(segment).map(|s| s.start())
-    }
-
     fn is_bucket_taken(&self, segment: usize, bucket: usize) -> bool
-        ensures { result ≡ slice_index_or (segment_at (model self.now).segments segment).taken bucket false }
-    {
-        self.segment(segment).is_some_and(|s| s.is_taken(bucket))
-    }
+        ensures { result ≡ slice_index_or (segment_at (model self.now).segments segment).taken bucket false };
 
     /// The bucket of its segment that an offset names, if it names one.
     fn bucket(&self, offset: PointerOffset) -> Option<usize>
@@ -101,6 +82,67 @@ pub trait Segmented: Sized {
     }
 
     ghost sound: { (m : Self) → Sound MAX_SEGMENTS (model m) };
+}
+
+/// A memory that keeps each segment as a value, which answers for its own buckets. Each is `Segmented`, by the impl below; a memory that
+/// keeps its segments in another way implements `Segmented` itself.
+pub trait Segments: Sized {
+    type Segment: Buckets;
+
+    ghost memory: { Self → Mem };
+
+    /// The greatest number of segments.
+    ghost MOST: { ℕ };
+
+    const MOST: usize;
+
+    fn count(&self) -> usize
+        ensures { result ≡ length (memory self.now).segments };
+
+    /// One segment, if it is there.
+    fn segment(&self, segment: usize) -> Option<&Self::Segment>
+        ensures there { is_some result ≡ nat_lt segment (length (memory self.now).segments) }
+        ensures buckets { IfSome result (λ s. Self.Segment.segment s.now ≡ segment_at (memory self.now).segments segment) };
+
+    /// Where the memory ends.
+    fn end(&self) -> usize
+        ensures { result ≡ (memory self.now).capacity };
+
+    ghost lawful: { (m : Self) → Sound MOST (memory m) };
+}
+
+impl<M: Segments> Segmented for M {
+    ghost model = { M.memory };
+
+    ghost MAX_SEGMENTS = { M.MOST };
+
+    const MAX_SEGMENTS: usize = M::MOST;
+
+    ghost sound = { M.lawful };
+
+    fn number_of_segments(&self) -> usize {
+        self.count()
+    }
+
+    fn bucket_size(&self, segment: usize) -> usize {
+        self.segment(segment).map_or(0, |s| s.bucket_size())
+    }
+
+    fn number_of_buckets(&self, segment: usize) -> usize {
+        self.segment(segment).map_or(0, |s| s.number_of_buckets())
+    }
+
+    fn start(&self, segment: usize) -> Option<usize> {
+        self.segment(segment).map(|s| s.start())
+    }
+
+    fn capacity(&self) -> usize {
+        self.end()
+    }
+
+    fn is_bucket_taken(&self, segment: usize, bucket: usize) -> bool {
+        self.segment(segment).is_some_and(|s| s.is_taken(bucket))
+    }
 }
 
 /// The segments of a memory as a port sees them that was told their greatest number.

@@ -1,8 +1,6 @@
 //! How many hold each chunk of a memory. An offset that names no chunk has the count 0, and nothing changes it.
-ghost use Rattle.std.specs.Prelude.{◌≡◌, ◌≤◌, replicate, IfOk, slice_index, slice_set};
-ghost use Rattle.rules.specs.Memory.{home};
-ghost use Rattle.rules.specs.Counts.{counts_of, count_at, counted, uncounted, released};
-ghost use Rattle.memory.specs.State.{chunks_of};
+ghost use Rattle.std.specs.Prelude.{◌≡◌, ℕ, ◌≤◌, replicate, IfOk, slice_index, slice_set};
+ghost use Rattle.rules.specs.Counts.{counts_of};
 
 use crate::data_segment::{Memory, Segmented};
 use elementary::pointer_offset::PointerOffset;
@@ -54,24 +52,23 @@ impl ReferenceCounts {
 }
 
 /// The counts of all segments that a memory may come to have. They are asked with the memory beside them and do not own it, so that the
-/// signatures say which calls only read it: all but the last.
+/// signatures say which calls only read it: all but the last. A ghost field and no model, so that whoever has counts knows that none
+/// passes 10.
 #[derive(Debug, Drop)]
 pub struct SegmentState {
     segments: Vec<ReferenceCounts>,
-}
-
-impl Model for SegmentState {
-    ghost use Rattle.rules.specs.Counts.{Counts};
-
-    ghost Value = { Counts };
-
-    ghost view = { λ s. s.segments.items };
+    pub ghost low: { (segment : ℕ) (bucket : ℕ) → slice_index (counts_of segments.items segment) bucket ≤ 10 },
 }
 
 impl SegmentState {
+    ghost use Rattle.std.specs.Prelude.{◌≡◌, ℕ, ◌≤◌, replicate, IfOk, slice_index, slice_set};
+    ghost use Rattle.rules.specs.Memory.{home};
+    ghost use Rattle.rules.specs.Counts.{counts_of, count_at, counted, uncounted, released};
+    ghost use Rattle.memory.specs.State.{counts_in, chunks_of};
+
     /// Counts for so many segments of so many buckets, all 0.
     pub fn new(heap: Global, segments: usize, buckets: usize) -> Result<SegmentState, AllocError>
-        ensures { IfOk result (λ s. s ≡ replicate segments (replicate buckets 0)) }
+        ensures { IfOk result (λ s. counts_in s ≡ replicate segments (replicate buckets 0)) }
     {
         let mut rows = Vec::with_capacity(heap, segments)?;
         // A plain count, with the memory for all rows there already: of rows collected in a chain no clause says what they are.
@@ -82,7 +79,7 @@ impl SegmentState {
     }
 
     fn get(&self, segment: usize, bucket: usize) -> u64
-        ensures value { result ≡ slice_index (counts_of self.now segment) bucket }
+        ensures value { result ≡ slice_index (counts_of (counts_in self.now) segment) bucket }
         ensures few { result ≤ 10 }
     {
         self.segments.get(segment).map_or(0, |row| row.get(bucket))
@@ -90,7 +87,7 @@ impl SegmentState {
 
     fn put(&mut self, segment: usize, bucket: usize, count: u64)
         requires { count ≤ 10 }
-        ensures { self.new ≡ slice_set self.old segment (slice_set (counts_of self.old segment) bucket count) }
+        ensures { counts_in self.new ≡ slice_set (counts_in self.old) segment (slice_set (counts_of (counts_in self.old) segment) bucket count) }
     {
         if let Some(row) = self.segments.get_mut(segment) {
             row.put(bucket, count);
@@ -99,7 +96,7 @@ impl SegmentState {
 
     /// How many hold a chunk.
     pub fn reference_count<M: Segmented>(&self, memory: &M, offset: PointerOffset) -> u64
-        ensures value { result ≡ count_at (M.model memory.now).segments self.now offset.value }
+        ensures value { result ≡ count_at (M.model memory.now).segments (counts_in self.now) offset.value }
         ensures few { result ≤ 10 }
     {
         let segment = usize::from(offset.segment_id());
@@ -110,8 +107,8 @@ impl SegmentState {
 
     /// One holder more; answers how many there were, and the size of the chunk's bucket.
     pub fn borrow_sample<M: Segmented>(&mut self, memory: &M, offset: PointerOffset) -> (u64, usize)
-        ensures value { result ≡ (count_at (M.model memory.now).segments self.old offset.value, (home (M.model memory.now).segments offset.value).size) }
-        ensures after { self.new ≡ counted (M.model memory.now).segments self.old offset.value }
+        ensures value { result ≡ (count_at (M.model memory.now).segments (counts_in self.old) offset.value, (home (M.model memory.now).segments offset.value).size) }
+        ensures after { counts_in self.new ≡ counted (M.model memory.now).segments (counts_in self.old) offset.value }
         ensures few { result.0 ≤ 10 }
     {
         let segment = usize::from(offset.segment_id());
@@ -126,8 +123,8 @@ impl SegmentState {
 
     /// One holder less; answers how many there were.
     pub fn release_sample<M: Segmented>(&mut self, memory: &M, offset: PointerOffset) -> u64
-        ensures value { result ≡ count_at (M.model memory.now).segments self.old offset.value }
-        ensures after { self.new ≡ uncounted (M.model memory.now).segments self.old offset.value }
+        ensures value { result ≡ count_at (M.model memory.now).segments (counts_in self.old) offset.value }
+        ensures after { counts_in self.new ≡ uncounted (M.model memory.now).segments (counts_in self.old) offset.value }
         ensures few { result ≤ 10 }
     {
         let segment = usize::from(offset.segment_id());
@@ -139,9 +136,14 @@ impl SegmentState {
         before
     }
 
+    /// No count passes 10, whoever has made or changed them: a fact of every value.
+    pub fn at_most_ten(&self)
+        ensures { (segment : ℕ) (bucket : ℕ) → slice_index (counts_of (counts_in self.now) segment) bucket ≤ 10 }
+    {}
+
     /// One holder less, and the bucket is freed if that was the last.
     pub fn release_chunk<M: Memory>(&mut self, memory: &mut M, offset: PointerOffset) -> u64
-        ensures value { result ≡ count_at (M.model memory.old).segments self.old offset.value }
+        ensures value { result ≡ count_at (M.model memory.old).segments (counts_in self.old) offset.value }
         ensures after { chunks_of (M.model memory.new) self.new ≡ released (chunks_of (M.model memory.old) self.old) offset.value }
         ensures few { result ≤ 10 }
     {

@@ -9,7 +9,7 @@ use crate::pool_allocator::{PoolAllocator, SpareSegment};
 use crate::request::{SegmentLayout, check_request};
 use elementary::error::{AllocationError, DeallocationError, SetUpError};
 use elementary::pointer_offset::PointerOffset;
-use memory::data_segment::{Memory, Segmented};
+use memory::data_segment::{Memory, Segmented, Segments};
 use std::alloc::{AllocError, Global};
 
 // No request is larger than the largest bucket that a segment may have.
@@ -157,22 +157,22 @@ impl DynamicMemory {
     }
 }
 
-impl Segmented for DynamicMemory {
+impl Segments for DynamicMemory {
     ghost use Rattle.rules.specs.Pools.{dynamic_mem};
     ghost use Rattle.pool.specs.Dynamic.{dynamic_of};
     ghost use Rattle.pool.specs.Soundness.{dynamic_sound};
 
     type Segment = PoolAllocator;
 
-    ghost model = { λ m. dynamic_mem (dynamic_of m) };
+    ghost memory = { λ m. dynamic_mem (dynamic_of m) };
 
-    ghost MAX_SEGMENTS = { 4 };
+    ghost MOST = { 4 };
 
-    const MAX_SEGMENTS: usize = 4;
+    const MOST: usize = 4;
 
-    ghost sound = { dynamic_sound };
+    ghost lawful = { dynamic_sound };
 
-    fn number_of_segments(&self) -> usize {
+    fn count(&self) -> usize {
         self.live.len()
     }
 
@@ -180,7 +180,7 @@ impl Segmented for DynamicMemory {
         self.live.get(segment)
     }
 
-    fn capacity(&self) -> usize {
+    fn end(&self) -> usize {
         self.capacity
     }
 }

@@ -7,7 +7,7 @@ use crate::pool_allocator::PoolAllocator;
 use crate::request::{SegmentLayout, check_request};
 use elementary::error::{AllocationError, DeallocationError, SetUpError};
 use elementary::pointer_offset::PointerOffset;
-use memory::data_segment::{Buckets, Memory, Segmented};
+use memory::data_segment::{Buckets, Memory, Segmented, Segments};
 use std::alloc::Global;
 
 #[derive(Debug, Drop)]
@@ -41,22 +41,22 @@ impl StaticMemory {
     }
 }
 
-impl Segmented for StaticMemory {
+impl Segments for StaticMemory {
     ghost use Rattle.rules.specs.Pools.{static_mem};
     ghost use Rattle.pool.specs.Static.{static_of};
     ghost use Rattle.pool.specs.Soundness.{static_sound};
 
     type Segment = PoolAllocator;
 
-    ghost model = { λ m. static_mem (static_of m) };
+    ghost memory = { λ m. static_mem (static_of m) };
 
-    ghost MAX_SEGMENTS = { 1 };
+    ghost MOST = { 1 };
 
-    const MAX_SEGMENTS: usize = 1;
+    const MOST: usize = 1;
 
-    ghost sound = { static_sound };
+    ghost lawful = { static_sound };
 
-    fn number_of_segments(&self) -> usize {
+    fn count(&self) -> usize {
         1
     }
 
@@ -64,7 +64,7 @@ impl Segmented for StaticMemory {
         (segment == 0).then_some(&self.pool)
     }
 
-    fn capacity(&self) -> usize {
+    fn end(&self) -> usize {
         self.pool.bucket_size() * self.pool.number_of_buckets()
     }
 }
