@@ -1,10 +1,10 @@
 -- A dynamic memory's calls, in the words that hold of every memory.
-use Rattle.std.specs.Prelude.{◌≡◌, ℕ, zero, suc, ◌+◌, ◌-◌, ◌*◌, ◌%◌, ◌<◌, ◌≤◌, Bool, true, false, cond, ◌&&◌, ◌||◌, ◌⊎◌, List, [], ◌∷◌, ◌++◌, length, get_or, replicate, is_some, Some, None, Err, vec_items, Option, nat_le, nat_lt, slice_index_or, slice_set, refl}
+use Rattle.std.specs.Prelude.{◌≡◌, ℕ, zero, suc, ◌+◌, ◌-◌, ◌*◌, ◌%◌, ◌<◌, ◌≤◌, Bool, true, false, cond, ◌&&◌, ◌||◌, ◌⊎◌, List, [], ◌∷◌, ◌++◌, length, get_or, drop, replicate, is_some, Some, None, Err, vec_items, Option, nat_le, nat_lt, slice_index_or, slice_set, refl}
 use Rattle.std.proofs.Common.{sym, ◌∙◌, ap, subst, inl, inr, ⊎_elim, arith, mul-le-mul}
 use Rattle.std.specs.Result.{result_err}
 use Rattle.std.specs.List.{position, position_from}
 use Rattle.std.proofs.lemmas.Iterator.Adapters.{position_from-zero}
-use Rattle.std.proofs.lemmas.List.{map-set, map_push, get_or_push, length-replicate, get_or-replicate, length-set}
+use Rattle.std.proofs.lemmas.List.{map-set, map_push, get_or_push, length-replicate, get_or-replicate, length-set, drop_more, drop_all}
 use Rattle.std.proofs.lemmas.Bool.{cases_Bool, cond-true, cond-false, and_parts, leb-true, ltb-true, lt-ltb, or_from, false≢true}
 use Rattle.std.proofs.lemmas.Nat.{mod-mul-add}
 use Rattle.std.proofs.lemmas.Bool.Decides.{nat_tests}
@@ -45,6 +45,14 @@ pub ready_small : (qs : List PoolAllocator) (s b : ℕ) → Ready qs s b → b *
 ready_small qs s b r = let h : b ≤ 256 = omega (arith, r.within, r.fair.4) in mul-le-mul h r.fair.2
 
 -- THE FIRST POOL THAT FITS
+
+-- one step of the search from the left
+pub fitting_step : (asked : ℕ) (ps : List Pool) (s : ℕ) → s < length ps
+    → fitting asked (drop s ps) s ≡ cond (fits asked (pool_at ps s)) (Some s) (fitting asked (drop (s + 1) ps) (s + 1))
+fitting_step asked ps s lt = ap (λ qs. fitting asked qs s) (drop_more ps s no_pool lt)
+
+pub fitting_end : (asked : ℕ) (ps : List Pool) (s : ℕ) → length ps ≤ s → fitting asked (drop s ps) s ≡ None
+fitting_end asked ps s le = ap (λ qs. fitting asked qs s) (drop_all s ps le)
 
 -- it is the first place that passes the test
 fitting_from : (asked : ℕ) (qs : List PoolAllocator) (n : ℕ) → position_from (λ q. fits asked (pool_of q)) n qs ≡ fitting asked (pools_in qs) n

@@ -1,8 +1,8 @@
 -- What a change of one segment, or one segment more, leaves of a dynamic memory's layout.
-use Rattle.std.specs.Prelude.{◌≡◌, ℕ, ◌+◌, ◌*◌, ◌<◌, List, [], ◌∷◌, ◌++◌, length, set, Some, None, vec_items, vec_len, Option, Vec, slice_index, slice_index_or, slice_set, refl}
-use Rattle.std.proofs.Common.{sym, ◌∙◌, ap, subst, ⊎_elim, arith}
+use Rattle.std.specs.Prelude.{◌≡◌, ℕ, ◌+◌, ◌*◌, ◌<◌, ◌≤◌, List, [], ◌∷◌, ◌++◌, length, set, Some, None, vec_items, vec_len, Option, Vec, slice_index, slice_index_or, slice_set, refl}
+use Rattle.std.proofs.Common.{sym, ◌∙◌, ap, subst, ⊎_elim, arith, rules}
 use Rattle.std.specs.declared.alloc.Global.{Global}
-use Rattle.std.proofs.lemmas.List.{get_or-set_same, get_or-set_other, set_past, length-set, get_or-map, map-set, length_push, get_or_append_left, get_or_push}
+use Rattle.std.proofs.lemmas.List.{get_or-set_same, get_or-set_other, set_past, length-set, get_or-map, get_or_past, map-set, length_push, places, get_or_append_left, get_or_push}
 use Rattle.std.proofs.lemmas.Bool.{cases_lt, cases_eq}
 use Rattle.rules.specs.Memory.{Segment, segment_at, no_segment, end_of}
 use Rattle.rules.specs.Pools.{Pool, by, next, took, took_next, gave, pool_at, no_pool, segments_of}
@@ -10,7 +10,7 @@ use Rattle.pool.specs.Model.{pool_of, pools_in}
 use Rattle.pool.specs.Layout.{Laid, Rising, Even, Spares}
 use Rattle.pool.specs.declared.pool_allocator.PoolAllocator.{PoolAllocator}
 use Rattle.pool.specs.declared.dynamic_memory.DynamicMemory.{DynamicMemory}
-use Rattle.pool.specs.Soundness.{segments_at}
+use Rattle.pool.specs.Soundness.{pools_length, segments_at}
 
 -- THE CODE'S LIST OF POOLS, READ AT ONE
 
@@ -18,6 +18,9 @@ pub pool_there : (v : Vec PoolAllocator Global) (s : ℕ) (x : PoolAllocator) �
 pool_there v s x lt e =
     let h : s < length (vec_items v) = omega (arith, v.ok.0) in
     get_or-map pool_of (vec_items v) s x no_pool h ∙ ap pool_of (sym e)
+
+pub pool_past : (v : Vec PoolAllocator Global) (s : ℕ) → vec_len v ≤ s → pool_at (pools_in (vec_items v)) s ≡ no_pool
+pool_past v s le = grind (arith, pools_length, get_or_past)
 
 -- LAYOUT
 
@@ -72,6 +75,9 @@ pub pools_set : (v : Vec PoolAllocator Global) (s : ℕ) (x w : PoolAllocator) (
 pools_set v s x w f lt e c =
     map-set pool_of (vec_items v) s w ∙ ap (set (pools_in (vec_items v)) s) (c ∙ ap f (sym (pool_there v s x lt e)))
 
+pub pools_same : (v : Vec PoolAllocator Global) (s : ℕ) (p : Pool) → vec_len v ≤ s → pools_in (vec_items v) ≡ slice_set (pools_in (vec_items v)) s p
+pools_same v s p le = grind (arith, pools_length, set_past)
+
 pub layout_pools : (ps : List Pool) (s : ℕ) (p : Pool) (end count : ℕ) → Alike (pool_at ps s).buckets p.buckets → Layout (segments_of ps) end count
     → Layout (segments_of (slice_set ps s p)) end count
 layout_pools ps s p end count a l =
@@ -113,7 +119,14 @@ layout_push gs g end count st ct l =
           (cases_lt k (length gs));
     }
 
+-- a layout of one segment
+pub layout_one : (g : Segment) (count : ℕ) → g.start ≡ 0 → length g.taken ≡ count → Layout (g ∷ []) (g.size * count) count
+layout_one g count st ct = grind (arith, layout_push [] g 0 count st ct)
+
 -- SEGMENTS TO BE
+
+pub spares_push : (ns ms : List ℕ) (n count : ℕ) → ms ≡ ns ++ n ∷ [] → n ≡ count → Spares ns count → Spares ms count
+spares_push ns ms n count e c s = search (rules, places, length_push)
 
 pub spares_pop : (ns rest : List ℕ) (n count : ℕ) → ns ≡ rest ++ n ∷ [] → Spares ns count → Spares rest count × (n ≡ count)
 spares_pop ns rest n count e s =

@@ -205,6 +205,9 @@ first_found t ps h = let e = is_first t ps in ap (λ n. t (at ps n)) e ∙ passe
 pub first_none : (t : Option Link → Bool) (ps : Places) → t None ≡ false → length ps ≤ first t ps → (j : ℕ) → t (at ps j) ≡ false
 first_none t ps n h j = search (rules, is_first, fails_before_first, get_or_past)
 
+never_fresh : (end : End) (d : LinkDetails) → never (standing end (fresh d)) ≡ true
+never_fresh end d = search rules
+
 -- an end that was never attached is attached now
 attach_alive : (end : End) (l : Link) → never (standing end l) ≡ true → alive (stepped end Attach l) ≡ true
 attach_alive end l h = search rules
@@ -228,6 +231,10 @@ sound_joined end ps p k s e n =
     (λ l el. let m : l ≡ stepped end Attach k = cc in subst Proper (sym m) (proper_event end Attach k (s.proper p k e) (attach_alive end k n)))
     (λ l j m el ne em b. let q : l ≡ stepped end Attach k = cc in
     others_apart ps p k s e j m ne em (ap (between m.details) (sym (ap (λ (z : Link). z.details) q ∙ event_details end Attach k)) ∙ b))
+
+-- the place of a link's ports has a link
+pub found_link : (d : LinkDetails) (x : Option Link) → connects d x ≡ true → (k : Link) × (x ≡ Some k)
+found_link d x e = search rules
 
 sound_made : (end : End) (ps : Places) (p : ℕ) (d : LinkDetails) → SoundBank ps → bad_buffer d ≡ false → bad_borrow d ≡ false → length ps ≤ first (connects d) ps
     → SoundBank (set ps p (Some (stepped end Attach (fresh d))))

@@ -3,8 +3,8 @@ use Rattle.std.proofs.Common.{rules, arith, true, false, cond, ◌≡◌, ℕ, �
 use native.Mathlib.Nat.{mul-mod_left}
 use Rattle.std.proofs.lemmas.Bool.Decides.{nat_tests}
 use Rattle.std.proofs.lemmas.Nat.{row_fits_turned, div-mul-add, mod-mul-add}
-use Rattle.elementary.specs.Ids.{distance, segment}
-use Rattle.rules.specs.Memory.{Mem, Segment, Sound, segment_at, no_segment, home, bucket, is_chunk, offset_of, end_of, start_of, with_segments, remarked, Takes}
+use Rattle.elementary.specs.Ids.{packed, distance, segment}
+use Rattle.rules.specs.Memory.{Mem, Segment, Sound, segment_at, no_segment, home, bucket, is_chunk, bucket_at, offset_of, end_of, start_of, with_segments, remarked, Takes}
 use Rattle.rules.specs.Bytes.{place, room}
 use Rattle.rules.specs.Laws.{NoByteShared, WithinCapacity}
 use Rattle.rules.proofs.Lists.{within}
@@ -16,6 +16,10 @@ chunk_bucket gs o e = search rules
 
 pub chunk_there : (gs : List Segment) (o : ℕ) → is_chunk gs o ≡ true → segment o < length gs
 chunk_there gs o e = within gs (segment o) no_segment (λ none. omega (arith, (chunk_bucket gs o e).1, ap (λ (g : Segment). length g.taken) none))
+
+-- an offset is its two parts
+pub unpacked : (o : ℕ) → packed (distance o) (segment o) ≡ o
+unpacked o = search rules
 
 -- so two chunks of one segment and one bucket are one chunk
 pub same_bucket : (gs : List Segment) (o p : ℕ) → is_chunk gs o ≡ true → is_chunk gs p ≡ true → segment o ≡ segment p → bucket gs o ≡ bucket gs p → o ≡ p
@@ -45,9 +49,17 @@ pub no_byte_shared : NoByteShared
 no_byte_shared limit m o p sound co cp ne =
     grind (arith, chunk_within, same_bucket, before, chunk_there, sound.apart (segment o) (segment p), sound.apart (segment p) (segment o))
 
+-- a segment whose buckets have no size is not there, so that no offset names a bucket of it
+pub sizeless : (limit : ℕ) (m : Mem) (o : ℕ) → Sound limit m → (home m.segments o).size ≡ 0 → bucket_at m.segments o ≡ None
+sizeless limit m o sound z = search (rules, chunk_there)
+
 -- a segment's start is a small number
 pub start_low : (limit : ℕ) (m : Mem) (s x : ℕ) → Sound limit m → Some x ≡ start_of m.segments s → x < 2 ^ 63
 start_low limit m s x sound e = search rules
+
+-- an offset of a segment that has no start names nothing
+pub startless : (gs : List Segment) (o : ℕ) → None ≡ start_of gs (segment o) → is_chunk gs o ≡ false
+startless gs o e = search (rules, chunk_there)
 
 -- what a search for a chunk's bytes found lies within the capacity
 pub located : (limit : ℕ) (m : Mem) (o start size : ℕ) → Sound limit m

@@ -8,13 +8,14 @@ use Rattle.elementary.specs.declared.port_id.PortId.{PortId}
 use Rattle.elementary.specs.declared.pointer_offset.PointerOffset.{PointerOffset}
 use Rattle.elementary.specs.declared.port_list.SubscriberDetails.{SubscriberDetails}
 use Rattle.elementary.specs.declared.link.LinkDetails.{LinkDetails}
+use Rattle.elementary.specs.declared.link.Standing.{Standing}
 use Rattle.elementary.specs.declared.link.Event.TheVariants.{Attach}
 use Rattle.elementary.specs.declared.link.End.TheVariants.{Sender}
 use Rattle.elementary.specs.declared.error.ZeroCopySendError.{ZeroCopySendError}
 use Rattle.elementary.specs.declared.error.ZeroCopyCreationError.{ZeroCopyCreationError}
 use Rattle.rules.specs.Pools.{by}
-use Rattle.rules.specs.Links.{Link, attached, stepped, fresh, listed, times}
-use Rattle.rules.specs.Bank.{Places, at, sends, create_fault, MayTake, SafeBank}
+use Rattle.rules.specs.Links.{Link, attached, never, next_standing, stepped, fresh, listed, times}
+use Rattle.rules.specs.Bank.{Places, at, sends, first, connects, agree, create_fault, MayTake, SafeBank}
 use Rattle.rules.specs.Publisher.{Connection, Side, slot_at, with_slots, wanted, connect_fault, taken_up, handed, last_of, connected, Connects, reclaimed_all}
 use Rattle.rules.specs.Books.{mine, held_here, held_by, owns, Wired, InOrder}
 use Rattle.rules.proofs.Offsets.{one_self, times_cons}
@@ -34,6 +35,18 @@ record Fresh (id : PortId) (d : LinkDetails) (x : Option Link) (l : Link) : Type
   empty : (o : ℕ) → times (listed l) o ≡ 0
   buffer : l.details.buffer_size ≡ d.buffer_size
   borrow : l.details.max_borrowed_samples ≡ d.max_borrowed_samples
+
+attach_never : (s : Standing) → never s ≡ true → attached (next_standing s Attach) ≡ true
+attach_never s e = search rules
+
+-- a link that a sender end never had is nobody's
+nobody's : (l : Link) → never l.sender_end ≡ true → (a : PortId) → owns a (Some l) ≡ false
+nobody's l e a = search rules
+
+-- a link that may be joined has the settings that were asked for
+join_agrees : (ps : Places) (d : LinkDetails) (l : Link) → create_fault Sender ps d ≡ None → first (connects d) ps < length ps → at ps (first (connects d) ps) ≡ Some l
+    → agree l.details d ≡ true
+join_agrees ps d l e lt here = search (rules, creatable)
 
 newly : (id : PortId) (ps : Places) (d : LinkDetails) (q : ℕ) → d.sender_port_id ≡ id → SafeBank ps → create_fault Sender ps d ≡ None → MayTake ps d q
     → Fresh id d (at ps q) (stepped Sender Attach (by (at ps q) (fresh d) (λ k. k)))

@@ -7,12 +7,16 @@ use Rattle.container.specs.Queue.{has, without, overflowed, evicted}
 use Rattle.elementary.specs.Ids.{same_chunk}
 use Rattle.elementary.specs.declared.pointer_offset.PointerOffset.{PointerOffset}
 use Rattle.elementary.specs.declared.port_list.SubscriberDetails.{SubscriberDetails}
+use Rattle.elementary.specs.declared.settings.PublisherSettings.{PublisherSettings}
+use Rattle.elementary.specs.declared.backpressure.BackpressureAction.{BackpressureAction}
+use Rattle.elementary.specs.declared.backpressure.BackpressureStrategy.{BackpressureStrategy}
+use Rattle.elementary.specs.declared.backpressure.DegradationAction.{DegradationAction}
 use Rattle.elementary.specs.declared.error.ZeroCopySendError.{ZeroCopySendError}
 use Rattle.elementary.specs.declared.error.SendError.{SendError}
 use Rattle.elementary.specs.declared.error.SendError.TheVariants as send
 use Rattle.rules.specs.Links.{times}
 use Rattle.rules.specs.Bank.{Goes, Places, sends, Turned, SafeBank}
-use Rattle.rules.specs.Publisher.{Connection, Pub, Side, slot_at, with_history, with_loans, hold, let_go, let_go_if, reclaimed_all, is_live, noted, Updates, Going, Verdict, Handler, judged, ended, with_links, Tries, tried, turned, Rounds, done, skipped, stopped, next, Delivers, spent, Posts, Sends}
+use Rattle.rules.specs.Publisher.{Connection, Pub, Side, slot_at, with_history, with_loans, hold, let_go, let_go_if, reclaimed_all, is_live, noted, Updates, Going, Verdict, passes, Handler, followed, acted, within_budget, degraded, judged, ended, with_links, Tries, tried, turned, Rounds, done, skipped, stopped, next, Delivers, spent, Posts, Sends}
 use Rattle.rules.specs.Books.{count_of, Books, InOrder, LeavesOrder, SendsKeepOrder}
 use Rattle.rules.proofs.Offsets.{one_self, times_cons, times_append, without_times, overflowed_times, overflowed_length}
 use Rattle.rules.proofs.Keep.{holding, letting_go}
@@ -32,6 +36,24 @@ use Rattle.rules.proofs.Faults.{passed, list_fault, delivers_passed, updates_fau
 -- a verdict that does not accept leaves publisher and links alone
 abbrev Idle : Verdict → Type 0
 Idle v = (a : Going) (c : Connection) (o : PointerOffset) → (ended a c o v).side ≡ a.side
+
+idle_passes : Idle passes
+idle_passes = search rules
+
+idle_budget : (s : PublisherSettings) (n : ℕ) (v : Verdict) → Idle v → Idle (within_budget s n v)
+idle_budget s n v i = search rules
+
+idle_followed : (s : BackpressureStrategy) → Idle (followed s)
+idle_followed s = search rules
+
+idle_acted : (s : PublisherSettings) (x : BackpressureAction) → Idle (acted s x)
+idle_acted s x = search rules
+
+idle_degraded : (d : DegradationAction) → Idle (degraded d)
+idle_degraded d = search rules
+
+idle_cond : (b : Bool) (v w : Verdict) → Idle v → Idle w → Idle (cond b v w)
+idle_cond b v w i j = search rules
 
 idle_refused : (f : Handler) (g : Side) (d : Connection) (n : ℕ) (e : ZeroCopySendError) → Idle (judged f g d n (Err e))
 idle_refused f g d n e = search rules

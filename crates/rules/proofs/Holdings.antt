@@ -5,9 +5,10 @@ use Rattle.container.specs.Queue.{oldest, later, without}
 use Rattle.elementary.specs.Ids.{same_chunk}
 use Rattle.elementary.specs.declared.pointer_offset.PointerOffset.{PointerOffset}
 use Rattle.elementary.specs.declared.link.LinkDetails.{LinkDetails}
+use Rattle.elementary.specs.declared.link.Event.TheVariants.{Detach}
 use Rattle.elementary.specs.declared.link.End.TheVariants.{Receiver}
-use Rattle.rules.specs.Links.{Link, attached, times, with_lists, can_borrow, receive_after, release_fault, release_after}
-use Rattle.rules.specs.Bank.{Places, at, changed, received, given_back, create_fault, MayTake, created, detached, Move, receive_at, release_at, moved, Turned}
+use Rattle.rules.specs.Links.{Link, attached, stepped, times, with_lists, can_borrow, receive_after, release_fault, release_after}
+use Rattle.rules.specs.Bank.{Places, at, changed, received, given_back, create_fault, MayTake, created, kept, detached, Move, receive_at, release_at, moved, Turned}
 use Rattle.rules.specs.Holdings.{Keeps, HeldSame, Stirred}
 use Rattle.rules.proofs.Banks.{turned_by, listed_times, releasable}
 use Rattle.rules.proofs.Lists.{set_each}
@@ -56,6 +57,9 @@ release_keeps x l = go (is_some (release_fault l x)) refl
         → Keeps (Some l) (Some (with_lists l l.waiting (cond t l.borrowed (without same_chunk l.borrowed x)) (cond t l.returned (l.returned ++ x ∷ []))))
     go true e = same_lists l _ _ _ (λ o. refl)
     go false e = same_lists l _ _ _ (λ o. omega (arith, without_times l.borrowed x o (releasable l x e).0, times_push l.returned x o))
+
+kept_keeps : (l : Link) → Keeps (Some l) (kept (stepped Receiver Detach l))
+kept_keeps l = search rules
 
 -- the bank's calls at a receiver end
 held_received : (ps : Places) (i : ℕ) → HeldSame ps (received ps i)

@@ -7,8 +7,8 @@ use Rattle.elementary.specs.Ids.{segment}
 use Rattle.elementary.specs.declared.pointer_offset.PointerOffset.{PointerOffset}
 use Rattle.elementary.specs.declared.error.AllocationError.{AllocationError}
 use Rattle.elementary.specs.declared.error.LoanError.{LoanError}
-use Rattle.rules.specs.Memory.{Mem, Segment, Sound, no_segment, segment_at, is_chunk, taken_at, free_at, marked, with_segments, blank, Takes, Allocates}
-use Rattle.rules.specs.Counts.{Chunks, count_at, raised, borrowed}
+use Rattle.rules.specs.Memory.{Mem, Segment, Sound, no_segment, segment_at, bucket, is_chunk, taken_at, free_at, marked, with_segments, blank, Takes, Allocates}
+use Rattle.rules.specs.Counts.{Counts, Chunks, counts_of, count_at, raised, borrowed}
 use Rattle.rules.specs.Bank.{Places}
 use Rattle.rules.specs.Publisher.{Pub, Side, with_chunks, with_loans, reclaimed_all, lent, Allots, may_loan, Loans}
 use Rattle.rules.specs.Books.{Ledger, Books, InOrder}
@@ -67,6 +67,14 @@ added_other gs b s ne = grind (arith, get_or_append_left, get_or_past, length_pu
 -- an offset of a segment that is not there names nothing
 nothing_named : (gs : List Segment) (x : ℕ) → segment x ≡ length gs → is_chunk gs x ≡ false
 nothing_named gs x e = search (rules, get_or_past)
+
+added_count : (gs : List Segment) (b : Segment) (cs : Counts) (x : ℕ)
+    → ((s i : ℕ) → length (segment_at gs s).taken ≤ i → get_or (counts_of cs s) i 0 ≡ 0) → count_at (gs ++ b ∷ []) cs x ≡ count_at gs cs x
+added_count gs b cs x unused =
+    ⊎_elim
+    (λ same. grind (arith, get_or_past, nothing_named gs x same, unused (segment x) (bucket (gs ++ b ∷ []) x)))
+    (λ other. grind (arith, added_other))
+    (cases_eq (segment x) (length gs))
 
 added_taken : (gs : List Segment) (start size count x : ℕ) → taken_at (gs ++ blank start size count ∷ []) x ≡ taken_at gs x
 added_taken gs start size count x =

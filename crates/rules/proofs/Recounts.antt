@@ -7,8 +7,15 @@ use Rattle.rules.specs.Counts.{Counts, counts_of, count_at, recounted}
 use Rattle.rules.proofs.Lists.{within}
 use Rattle.rules.proofs.Marks.{mark_chunk, mark_bucket}
 
+-- a row that has a place for b is there
+row_there : (cs : Counts) (s b : ℕ) → b < length (counts_of cs s) → s < length cs
+row_there cs s b lt = within cs s [] (λ none. omega (arith, ap length none))
+
 pub row_same : (cs : Counts) (s b n : ℕ) → b < length (counts_of cs s) → counts_of (set cs s (set (counts_of cs s) b n)) s ≡ set (counts_of cs s) b n
-row_same cs s b n lt = get_or-set_same cs s _ [] (within cs s [] (λ none. omega (arith, ap length none)))
+row_same cs s b n lt = get_or-set_same cs s _ [] (row_there cs s b lt)
+
+pub row_other : (cs : Counts) (s k : ℕ) (ns : List ℕ) → (k ≡ s → ⊥) → counts_of (set cs s ns) k ≡ counts_of cs k
+row_other cs s k ns ne = get_or-set_other cs s k ns [] ne
 
 -- the chunk itself
 pub recount_same : (gs : List Segment) (cs : Counts) (o n : ℕ) → is_chunk gs o ≡ true → bucket gs o < length (counts_of cs (segment o)) → count_at gs (recounted gs cs o n) o ≡ n

@@ -7,11 +7,12 @@ use Rattle.std.proofs.lemmas.List.{get_or-set_same, get_or-set_other, length-set
 use Rattle.std.proofs.lemmas.List.Sorted.{sum_by-IsPermutation}
 use Rattle.elementary.specs.declared.port_id.PortId.{PortId}
 use Rattle.elementary.specs.declared.pointer_offset.PointerOffset.{PointerOffset}
+use Rattle.elementary.specs.declared.link.Standing.{Standing}
 use Rattle.elementary.specs.declared.link.Event.TheVariants.{Detach}
 use Rattle.elementary.specs.declared.link.End.TheVariants.{Sender}
 use Rattle.elementary.specs.declared.error.CloseError.{CloseError}
 use Rattle.rules.specs.Pools.{by}
-use Rattle.rules.specs.Links.{Link, stepped, times}
+use Rattle.rules.specs.Links.{Link, attached, next_standing, stepped, times}
 use Rattle.rules.specs.Bank.{Places, at, kept, detached, held_at}
 use Rattle.rules.specs.Publisher.{Connection, Pub, Side, slot_at, with_slots, let_go_all, Removes, Empties, none, one, shut, Closes}
 use Rattle.rules.specs.Books.{held_here, held_by, Books, owns, Wired, InOrder}
@@ -25,6 +26,16 @@ use Rattle.rules.proofs.Passages.{Passage, Fits, passage_refl, passage_trans, al
 use Rattle.rules.proofs.Reclaims.{owned_there, held_set, all_id, all_slots, all_loans}
 
 -- ONE LINK
+
+detached_end : (s : Standing) → attached (next_standing s Detach) ≡ false
+detached_end s = search rules
+
+-- a link whose sender end is gone is nobody's, and holds nothing for anybody
+not_owned : (id : PortId) (l : Link) → attached l.sender_end ≡ false → owns id (kept l) ≡ false
+not_owned id l e = search rules
+
+holds_nothing : (id : PortId) (o : ℕ) (l : Link) → attached l.sender_end ≡ false → held_here id o (kept l) ≡ 0
+holds_nothing id o l e = search rules
 
 here_removed : (id : PortId) (ps : Places) (i o : ℕ) → owns id (at ps i) ≡ true
     → held_here id o (by (at ps i) None (λ l. kept (stepped Sender Detach l))) + times (held_at ps i) o ≡ held_here id o (at ps i)

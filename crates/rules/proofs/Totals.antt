@@ -99,6 +99,9 @@ taken_named gs s b h k = grind (arith, marked_there, named, marked_within)
 fewer_marks : (ts : List Bool) (b : ℕ) → b < length ts → trues ts ≤ trues (set ts b false) + 1
 fewer_marks ts b lt = omega (arith, sum_by-set (λ t. cond t 1 0) ts b false false lt, chosen (get_or ts b false) 1)
 
+fewer_large : (large : Bool) (m n : ℕ) → m ≤ n + 1 → cond large m 0 ≤ cond large n 0 + 1
+fewer_large large m n h = search rules
+
 fewer : (gs : List Segment) (o asked : ℕ) → is_chunk gs o ≡ true → as_large_taken gs asked ≤ as_large_taken (marked gs o false) asked + 1
 fewer gs o asked c = grind (arith, sum_by-set, chunk_there, fewer_marks)
 

@@ -1,5 +1,5 @@
 -- What a publisher sees of the bank: its own links, and what they hold.
-use Rattle.std.proofs.Common.{arith, rules, true, false, cond, ◌≡◌, ℕ, suc, List, [], ◌∷◌, get_or, set, Some, None, sum_by, Option, refl, ◌∙◌}
+use Rattle.std.proofs.Common.{arith, rules, true, false, cond, ◌≡◌, ℕ, suc, List, [], ◌∷◌, get_or, set, is_some, Some, None, sum_by, Option, sym, refl, ap, ◌∙◌}
 use Rattle.std.specs.Option.{option_map}
 use Rattle.std.proofs.lemmas.List.Sums.{sum_by-cons}
 use Rattle.elementary.specs.Ids.{same_port}
@@ -11,8 +11,20 @@ use Rattle.rules.specs.Links.{Link}
 use Rattle.rules.specs.Bank.{Places, at, changed}
 use Rattle.rules.specs.Publisher.{Pub}
 use Rattle.rules.specs.Holdings.{owned, holding, HeldSame}
-use Rattle.rules.specs.Books.{mine, held_here, held_by, owns, InOrder}
+use Rattle.rules.specs.Books.{mine, held_here, held_by, owns, Wired, InOrder}
 use Rattle.rules.proofs.Lists.{set_each}
+
+-- PORT IDS
+
+pub same_port_eq : (a b : PortId) → same_port a b ≡ true → a ≡ b
+same_port_eq a b e = search rules
+
+pub same_port_refl : (a : PortId) → same_port a a ≡ true
+same_port_refl a = search rules
+
+-- two ids that differ do so either way round
+pub apart_ports : (a b : PortId) → same_port a b ≡ false → same_port b a ≡ false
+apart_ports a b e = search rules
 
 -- ONE PLACE
 
@@ -38,6 +50,13 @@ unmoved_trans a b = record { alike = λ i. record { details = (b.alike i).detail
 
 pub unmoved_set : (id : PortId) (ps : Places) (i : ℕ) (x : Option Link) → Alike id (at ps i) x → Unmoved id ps (set ps i x)
 unmoved_set id ps i x k = record { alike = set_each (Alike id) (alike_refl id) ps i x None k }
+
+-- whether a place is a publisher's own
+owned_by : (id : PortId) (x : Option Link) → owns id x ≡ is_some (own_details id x)
+owned_by id x = search rules
+
+pub unmoved_owns : (id : PortId) (ps qs : Places) → Unmoved id ps qs → (i : ℕ) → owns id (at qs i) ≡ owns id (at ps i)
+unmoved_owns id ps qs u i = owned_by id (at qs i) ∙ (ap is_some (u.alike i).details ∙ sym (owned_by id (at ps i)))
 
 -- two places that are not a publisher's own are alike for it
 pub none_held : (id : PortId) (x : Option Link) → owns id x ≡ false → (own_details id x ≡ None) × ((o : ℕ) → held_here id o x ≡ 0)
@@ -67,6 +86,12 @@ kept_by h f keep ps i = set_each (λ x y. h y ≡ h x) (λ x. refl) ps i _ None 
 
 -- WHAT SUBSCRIBERS AND TURNS LEAVE
 
+abbrev narrowed : PortId → Option LinkDetails → Option LinkDetails
+narrowed id x = by x None (λ d. cond (same_port d.sender_port_id id) (Some d) None)
+
+own_narrowed : (id : PortId) (x : Option Link) → own_details id x ≡ narrowed id (owned x)
+own_narrowed id x = search rules
+
 here_narrowed : (id : PortId) (o : ℕ) (x : Option Link) → held_here id o x ≡ by (owned x) 0 (λ d. cond (same_port d.sender_port_id id) (holding x o) 0)
 here_narrowed id o x = search rules
 
@@ -84,6 +109,9 @@ sum_alike d f z (x ∷ xs) (y ∷ ys) h = omega (arith, sum_by-cons f y ys, sum_
 
 pub unmoved_held_by : (id : PortId) (ps qs : Places) → Unmoved id ps qs → (o : ℕ) → held_by id qs o ≡ held_by id ps o
 unmoved_held_by id ps qs u o = sum_alike None (held_here id o) refl ps qs (λ i. (u.alike i).holds o)
+
+pub unmoved_wired : (p : Pub) (ps qs : Places) → Unmoved p.id ps qs → Wired p ps → Wired p qs
+unmoved_wired p ps qs u w = grind (arith, unmoved_owns)
 
 pub unmoved_order : (loans hand : List PointerOffset) (p : Pub) (ps qs : Places) → Unmoved p.id ps qs
     → InOrder loans hand (record { port = p; links = ps }) → InOrder loans hand (record { port = p; links = qs })
