@@ -13,6 +13,8 @@ mod ids;
 #[cfg(test)]
 mod memories;
 #[cfg(test)]
+mod own;
+#[cfg(test)]
 mod queue;
 #[cfg(test)]
 mod settings;
