@@ -1,6 +1,7 @@
 //! What a user may bring: a memory that keeps no segment as a value, entries with a test of their own, code over every refused error.
 ghost use Rattle.std.specs.Prelude.{◌≡◌, ℕ, ◌≤◌, nat_le, slice_index};
 ghost use Rattle.container.specs.Queue.{entries, has, without};
+ghost use Rattle.rules.specs.Memory.{segment_at};
 ghost use Rattle.rules.specs.Counts.{counts_of};
 ghost use Rattle.memory.specs.State.{counts_in};
 ghost use Rattle.boundaries.specs.Halves.{halves, sound};
@@ -9,9 +10,10 @@ use container::queue::{Queue, Same};
 use elementary::error::{CloseError, Refusal, Refused};
 use elementary::pointer_offset::PointerOffset;
 use memory::chunk::{fill, payload};
-use memory::data_segment::{Segmented, View};
+use memory::data_segment::{Buckets, Memory, Segmented, SegmentedMemory, Segments, View};
 use memory::segment_state::SegmentState;
 use pool::data_segment_view::DataSegmentView;
+use pool::dynamic_memory::DynamicMemory;
 use std::test::Fail;
 
 // Its segments are computed, so that there is none to hand out.
@@ -85,6 +87,13 @@ fn twice<E: Refused + Copy>(error: E) -> (Refusal, Refusal)
     (error.refusal(), error.refusal())
 }
 
+// Code over every memory that hands out its segments: what one answers is what the memory means.
+fn size_of_segment<M: SegmentedMemory>(m: &M, segment: usize) -> usize
+    ensures { result ≡ (segment_at (M.Segmented.model m.now).segments segment).size }
+{
+    m.segment(segment).map_or(0, |s| s.bucket_size())
+}
+
 // Of every value, without asking for a count.
 fn at_most_ten(counts: &SegmentState)
     ensures { (segment : ℕ) (bucket : ℕ) → slice_index (counts_of (counts_in counts.now) segment) bucket ≤ 10 }
@@ -107,6 +116,16 @@ fn a_memory_that_keeps_no_segments_is_asked_itself(rt: HostRuntime) -> Result<()
     assert_eq!(&rt; counts.reference_count(&Halves, second), 1);
     assert_eq!(&rt; counts.reference_count(&Halves, third), 0);
     at_most_ten(&counts);
+    Ok(())
+}
+
+#[test]
+fn a_memory_may_be_asked_for_a_segment(rt: HostRuntime) -> Result<(), Fail> {
+    let mut m = DynamicMemory::new(rt.alloc(), 8, 2, 64)?;
+    assert!(&rt; m.allocate(16, 8).is_ok());
+    assert_eq!(&rt; size_of_segment(&m, 0), 8);
+    assert_eq!(&rt; size_of_segment(&m, 1), 16);
+    assert_eq!(&rt; size_of_segment(&m, 2), 0);
     Ok(())
 }
 

@@ -9,7 +9,7 @@ use std::fmt;
 use thiserror::Error;
 
 /// What a refusal tells: its number, and the number of the cause if it carries one. Numbers and no cases, since these are what users see
-/// and scripts compare. Each error that a user meets is an enum, and is `Refused`: a line each, as no derive gives an enum's discriminant.
+/// and scripts compare. Each error that a user meets is an enum, and turns into them by `From`: a line each, as no derive gives an enum's discriminant.
 #[derive(Clone, Copy, PartialEq, Eq, Debug)]
 pub struct Refusal {
     pub number: u8,
@@ -28,20 +28,12 @@ impl Refusal {
     }
 }
 
-/// Errors that a user meets. What such an error tells is a function of it, which generic code can name.
+/// Errors that a user meets. What such an error tells is a function of it, which generic code can name; `From` says of a bound no function.
 pub trait Refused: Sized {
     ghost tells: { Self → Refusal };
 
     fn refusal(self) -> Refusal
         ensures { result ≡ tells self };
-}
-
-impl<E: Refused> From<E> for Refusal {
-    ghost from_gives = { λ e r. r ≡ E.tells e };
-
-    fn from(error: E) -> Refusal {
-        error.refusal()
-    }
 }
 
 impl fmt::Display for Refusal {
@@ -80,11 +72,19 @@ pub enum AllocationError {
     OutOfMemory = 5,
 }
 
+impl From<AllocationError> for Refusal {
+    ghost from_gives = { λ e r. r ≡ allocation_refusal e };
+
+    fn from(error: AllocationError) -> Refusal {
+        Refusal::new(error as u8)
+    }
+}
+
 impl Refused for AllocationError {
     ghost tells = { allocation_refusal };
 
     fn refusal(self) -> Refusal {
-        Refusal::new(self as u8)
+        self.into()
     }
 }
 
@@ -95,11 +95,19 @@ pub enum DeallocationError {
     NotTaken = 15,
 }
 
+impl From<DeallocationError> for Refusal {
+    ghost from_gives = { λ e r. r ≡ deallocation_refusal e };
+
+    fn from(error: DeallocationError) -> Refusal {
+        Refusal::new(error as u8)
+    }
+}
+
 impl Refused for DeallocationError {
     ghost tells = { deallocation_refusal };
 
     fn refusal(self) -> Refusal {
-        Refusal::new(self as u8)
+        self.into()
     }
 }
 
@@ -116,11 +124,19 @@ pub enum ZeroCopyCreationError {
     NoPlaceLeft = 23,
 }
 
+impl From<ZeroCopyCreationError> for Refusal {
+    ghost from_gives = { λ e r. r ≡ creation_refusal e };
+
+    fn from(error: ZeroCopyCreationError) -> Refusal {
+        Refusal::new(error as u8)
+    }
+}
+
 impl Refused for ZeroCopyCreationError {
     ghost tells = { creation_refusal };
 
     fn refusal(self) -> Refusal {
-        Refusal::new(self as u8)
+        self.into()
     }
 }
 
@@ -133,11 +149,19 @@ pub enum ZeroCopyReceiveError {
     NotConnected = 15,
 }
 
+impl From<ZeroCopyReceiveError> for Refusal {
+    ghost from_gives = { λ e r. r ≡ receiving_refusal e };
+
+    fn from(error: ZeroCopyReceiveError) -> Refusal {
+        Refusal::new(error as u8)
+    }
+}
+
 impl Refused for ZeroCopyReceiveError {
     ghost tells = { receiving_refusal };
 
     fn refusal(self) -> Refusal {
-        Refusal::new(self as u8)
+        self.into()
     }
 }
 
@@ -150,11 +174,19 @@ pub enum ZeroCopyReleaseError {
     RetrieveBufferFull = 16,
 }
 
+impl From<ZeroCopyReleaseError> for Refusal {
+    ghost from_gives = { λ e r. r ≡ releasing_refusal e };
+
+    fn from(error: ZeroCopyReleaseError) -> Refusal {
+        Refusal::new(error as u8)
+    }
+}
+
 impl Refused for ZeroCopyReleaseError {
     ghost tells = { releasing_refusal };
 
     fn refusal(self) -> Refusal {
-        Refusal::new(self as u8)
+        self.into()
     }
 }
 
@@ -165,11 +197,19 @@ pub enum ConnectionError {
     NotConnected = 15,
 }
 
+impl From<ConnectionError> for Refusal {
+    ghost from_gives = { λ e r. r ≡ connection_refusal e };
+
+    fn from(error: ConnectionError) -> Refusal {
+        Refusal::new(error as u8)
+    }
+}
+
 impl Refused for ConnectionError {
     ghost tells = { connection_refusal };
 
     fn refusal(self) -> Refusal {
-        Refusal::new(self as u8)
+        self.into()
     }
 }
 
@@ -188,11 +228,19 @@ pub enum LoanError {
     ConnectionBrokenSinceSenderNoLongerExists = 8,
 }
 
+impl From<LoanError> for Refusal {
+    ghost from_gives = { λ e r. r ≡ loan_refusal e };
+
+    fn from(error: LoanError) -> Refusal {
+        Refusal::new(error as u8)
+    }
+}
+
 impl Refused for LoanError {
     ghost tells = { loan_refusal };
 
     fn refusal(self) -> Refusal {
-        Refusal::new(self as u8)
+        self.into()
     }
 }
 
@@ -205,11 +253,19 @@ pub enum FillError {
     OutOfBounds = 7,
 }
 
+impl From<FillError> for Refusal {
+    ghost from_gives = { λ e r. r ≡ fill_refusal e };
+
+    fn from(error: FillError) -> Refusal {
+        Refusal::new(error as u8)
+    }
+}
+
 impl Refused for FillError {
     ghost tells = { fill_refusal };
 
     fn refusal(self) -> Refusal {
-        Refusal::new(self as u8)
+        self.into()
     }
 }
 
@@ -232,11 +288,11 @@ pub enum SendError {
     UnableToDeliver,
 }
 
-impl Refused for SendError {
-    ghost tells = { send_refusal };
+impl From<SendError> for Refusal {
+    ghost from_gives = { λ e r. r ≡ send_refusal e };
 
-    fn refusal(self) -> Refusal {
-        match self {
+    fn from(error: SendError) -> Refusal {
+        match error {
             SendError::LoanNotLive => Refusal::new(6),
             SendError::ConnectionBrokenSinceSenderNoLongerExists => Refusal::new(8),
             SendError::MalformedList => Refusal::new(9),
@@ -251,6 +307,14 @@ impl Refused for SendError {
     }
 }
 
+impl Refused for SendError {
+    ghost tells = { send_refusal };
+
+    fn refusal(self) -> Refusal {
+        self.into()
+    }
+}
+
 /// Why a loan is not returned.
 #[derive(Clone, Copy, PartialEq, Eq, Debug, Error)]
 pub enum ReturnError {
@@ -258,11 +322,19 @@ pub enum ReturnError {
     LoanNotLive = 6,
 }
 
+impl From<ReturnError> for Refusal {
+    ghost from_gives = { λ e r. r ≡ return_refusal e };
+
+    fn from(error: ReturnError) -> Refusal {
+        Refusal::new(error as u8)
+    }
+}
+
 impl Refused for ReturnError {
     ghost tells = { return_refusal };
 
     fn refusal(self) -> Refusal {
-        Refusal::new(self as u8)
+        self.into()
     }
 }
 
@@ -273,11 +345,19 @@ pub enum ReceiveError {
     ExceedsMaxBorrows = 14,
 }
 
+impl From<ReceiveError> for Refusal {
+    ghost from_gives = { λ e r. r ≡ receive_refusal e };
+
+    fn from(error: ReceiveError) -> Refusal {
+        Refusal::new(error as u8)
+    }
+}
+
 impl Refused for ReceiveError {
     ghost tells = { receive_refusal };
 
     fn refusal(self) -> Refusal {
-        Refusal::new(self as u8)
+        self.into()
     }
 }
 
@@ -290,11 +370,19 @@ pub enum ReadError {
     NotBorrowed = 15,
 }
 
+impl From<ReadError> for Refusal {
+    ghost from_gives = { λ e r. r ≡ read_refusal e };
+
+    fn from(error: ReadError) -> Refusal {
+        Refusal::new(error as u8)
+    }
+}
+
 impl Refused for ReadError {
     ghost tells = { read_refusal };
 
     fn refusal(self) -> Refusal {
-        Refusal::new(self as u8)
+        self.into()
     }
 }
 
@@ -311,11 +399,11 @@ pub enum UpdateError {
     NoUnusedKey,
 }
 
-impl Refused for UpdateError {
-    ghost tells = { update_refusal };
+impl From<UpdateError> for Refusal {
+    ghost from_gives = { λ e r. r ≡ update_refusal e };
 
-    fn refusal(self) -> Refusal {
-        match self {
+    fn from(error: UpdateError) -> Refusal {
+        match error {
             UpdateError::MalformedList => Refusal::new(9),
             UpdateError::ConnectionFailure(cause) => Refusal {
                 number: 10,
@@ -327,6 +415,14 @@ impl Refused for UpdateError {
     }
 }
 
+impl Refused for UpdateError {
+    ghost tells = { update_refusal };
+
+    fn refusal(self) -> Refusal {
+        self.into()
+    }
+}
+
 /// Why a publisher is not closed.
 #[derive(Clone, Copy, PartialEq, Eq, Debug, Error)]
 pub enum CloseError {
@@ -334,11 +430,19 @@ pub enum CloseError {
     ConnectionBrokenSinceSenderNoLongerExists = 8,
 }
 
+impl From<CloseError> for Refusal {
+    ghost from_gives = { λ e r. r ≡ close_refusal e };
+
+    fn from(error: CloseError) -> Refusal {
+        Refusal::new(error as u8)
+    }
+}
+
 impl Refused for CloseError {
     ghost tells = { close_refusal };
 
     fn refusal(self) -> Refusal {
-        Refusal::new(self as u8)
+        self.into()
     }
 }
 
@@ -349,11 +453,19 @@ pub enum SettingsError {
     OutOfRange = 1,
 }
 
+impl From<SettingsError> for Refusal {
+    ghost from_gives = { λ e r. r ≡ settings_refusal e };
+
+    fn from(error: SettingsError) -> Refusal {
+        Refusal::new(error as u8)
+    }
+}
+
 impl Refused for SettingsError {
     ghost tells = { settings_refusal };
 
     fn refusal(self) -> Refusal {
-        Refusal::new(self as u8)
+        self.into()
     }
 }
 

@@ -187,3 +187,8 @@ pub trait Memory: Segmented {
         ensures fault { result_err result ≡ deallocation_fault (Self.model self.old) offset.value }
         ensures after { Self.model self.new ≡ freed (Self.model self.old) offset.value };
 }
+
+/// A memory that hands out segments: they are those of its meaning.
+pub trait SegmentedMemory: Memory + Segments {
+    ghost alike: { (m : Self) → Self.Segmented.model m ≡ Self.Segments.memory m };
+}

@@ -9,7 +9,7 @@ use crate::pool_allocator::{PoolAllocator, SpareSegment};
 use crate::request::{SegmentLayout, check_request};
 use elementary::error::{AllocationError, DeallocationError, SetUpError};
 use elementary::pointer_offset::PointerOffset;
-use memory::data_segment::{Memory, Segmented, Segments};
+use memory::data_segment::{Memory, Segmented, SegmentedMemory, Segments};
 use std::alloc::{AllocError, Global};
 
 // No request is larger than the largest bucket that a segment may have.
@@ -215,4 +215,10 @@ impl Memory for DynamicMemory {
         self.give_in(usize::from(offset.segment_id()), bucket);
         Ok(())
     }
+}
+
+impl SegmentedMemory for DynamicMemory {
+    ghost use Rattle.std.specs.Prelude.{refl};
+
+    ghost alike = { λ _. refl };
 }

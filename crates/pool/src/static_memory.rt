@@ -7,7 +7,7 @@ use crate::pool_allocator::PoolAllocator;
 use crate::request::{SegmentLayout, check_request};
 use elementary::error::{AllocationError, DeallocationError, SetUpError};
 use elementary::pointer_offset::PointerOffset;
-use memory::data_segment::{Buckets, Memory, Segmented, Segments};
+use memory::data_segment::{Buckets, Memory, Segmented, SegmentedMemory, Segments};
 use std::alloc::Global;
 
 #[derive(Debug, Drop)]
@@ -99,4 +99,10 @@ impl Memory for StaticMemory {
         self.pool.give_back(bucket);
         Ok(())
     }
+}
+
+impl SegmentedMemory for StaticMemory {
+    ghost use Rattle.std.specs.Prelude.{refl};
+
+    ghost alike = { λ _. refl };
 }
